@@ -1,0 +1,157 @@
+-- The worked cases of docs/TABLE.md: one list, proved by one computation.
+use Prim.Native.Nat.{ℕ, zero, suc, _+_, _*_, _^_}
+use mathlib.Core.Path.{_≡_, refl}
+use mathlib.Core.Bool.{Bool, true, false, _&&_}
+use mathlib.Core.List.{List, [], _∷_, map, _++_}
+use mathlib.Core.Option.{Option, some, none}
+use lib.Dec.{eqb}
+use lib.ListN.{getD, length, replicate, set}
+use Rattle.rules.specs.declared.Settings.{Settings}
+use Rattle.rules.specs.declared.Answer.{Answer}
+use Rattle.rules.specs.Tools.{within, all, any, count, those, lowest}
+use Rattle.rules.specs.Table.{in-range, wrap, prefix, steps, filter-bits, positions, bucket, Memory, counters-size, filter-start, counter-place, counter-places, slots-size, slot-number, prefix-word, mark-word, default-word, occupied, mark-of, hop-of, mark-at, prefix-at, default-mark, holds, free, held, vacant, is-some, stored, refuse, sized, loose, full, hits, passes-15, runs-short, from-1, memory-refusal, route-refusal, add-refusal, withdraw-refusal, change-refusal, Update, update, zeroed, step-each, with-slot, with-default, with-held, added, withdrawn, changed, clear, add, withdraw, change, claims, bits-where, vector-of, match-vector, down-from, bit-set, set-bits, search, default-answer, place-answer, refused, answer-of, lookup, one-if}
+
+-- an address or a prefix by its four octets
+abbrev ip : (a b c d : ℕ) → ℕ
+ip a b c d = a * 2 ^ 24 + b * 2 ^ 16 + c * 2 ^ 8 + d
+
+-- K, D, E, S, A, B, C
+abbrev settings : (k d e s a b c : ℕ) → Settings
+settings k d e s a b c = record { k = k; d = d; e = e; s = s; a = a; b = b; c = c }
+
+abbrev T : Settings
+T = settings 2 4 1 2 1 2 1
+
+-- settings with all multipliers zero
+abbrev Z : (k s : ℕ) → Settings
+Z k s = settings k 4 0 s 0 0 0
+
+-- a table cleared under these settings, whose memory held sevens
+abbrev empty : Settings → Memory
+empty t = clear t (record { counters = replicate (counters-size t) 7; slots = replicate (slots-size t) 7 }) .memory
+
+-- the tables of the cases, each with one route more
+abbrev ten : Memory
+ten = add T (empty T) (ip 10 0 0 0) 8 7 .memory
+
+abbrev ten-one : Memory
+ten-one = add T ten (ip 10 1 0 0) 16 9 .memory
+
+abbrev ten-one-default : Memory
+ten-one-default = add T ten-one 0 0 3 .memory
+
+abbrev ten-eight : Memory
+ten-eight = add T ten (ip 8 0 0 0) 8 5 .memory
+
+abbrev eight-gone : Memory
+eight-gone = withdraw T ten-eight (ip 8 0 0 0) 8 .memory
+
+abbrev nine-again : Update
+nine-again = add T eight-gone (ip 9 0 0 0) 8 6
+
+-- n routes of length 32 and hop 1 under settings t: 0.0.0.1 and on
+abbrev hosts : Settings → (n : ℕ) → Memory
+hosts t zero = empty t
+hosts t (suc n) = add t (hosts t n) (suc n) 32 1 .memory
+
+-- an answer's figures, in the order of the rules: refusal, found, hop, length, probes
+abbrev figures : Answer → List ℕ
+figures r = r .refusal ∷ one-if (r .found) ∷ r .hop ∷ r .length ∷ r .probes ∷ []
+
+-- found, with hop, length and probes
+abbrev finds : (hop L probes : ℕ) → List ℕ
+finds hop L probes = 0 ∷ 1 ∷ hop ∷ L ∷ probes ∷ []
+
+-- none, with the probes made
+abbrev none-after : (probes : ℕ) → List ℕ
+none-after probes = 0 ∷ 0 ∷ 0 ∷ 0 ∷ probes ∷ []
+
+-- what the rules give in a case, and what is said of it
+record Case : Type 0 where
+  gives : List ℕ
+  says : List ℕ
+
+abbrev case : (gives says : List ℕ) → Case
+case gives says = record { gives = gives; says = says }
+
+worked : List Case
+worked =
+    -- P1: 10.0.0.0/8 has positions 0 and 1, and bucket 0
+    case (positions T 8 (ip 10 0 0 0)) (0 ∷ 1 ∷ [])
+    ∷ case (bucket T (ip 10 0 0 0) ∷ []) (0 ∷ [])
+    -- P2: 192.0.0.0/8 has positions 12 and 4, and bucket 1
+    ∷ case (positions T 8 (ip 192 0 0 0)) (12 ∷ 4 ∷ [])
+    ∷ case (bucket T (ip 192 0 0 0) ∷ []) (1 ∷ [])
+    -- P3: 0.0.0.0/8 has position 0 twice, and its add raises that counter by 2
+    ∷ case (positions T 8 0) (0 ∷ 0 ∷ [])
+    ∷ case (getD (add T (empty T) 0 8 7 .memory .counters) (counter-place T 8 0) 0 ∷ []) (2 ∷ [])
+    -- P4: 10/8 alone: 8.1.2.3 gives none after 1 probe, with vector 128
+    ∷ case (figures (lookup T ten (ip 8 1 2 3))) (none-after 1)
+    ∷ case (match-vector T ten (ip 8 1 2 3) .vector ∷ []) (128 ∷ [])
+    -- P5: 10.1/16 too: 10.1.2.3 gives hop 9, length 16, 1 probe
+    ∷ case (figures (lookup T ten-one (ip 10 1 2 3))) (finds 9 16 1)
+    -- P6: the same table: 10.2.2.3 gives hop 7, length 8, 2 probes, with vector 32,896
+    ∷ case (figures (lookup T ten-one (ip 10 2 2 3))) (finds 7 8 2)
+    ∷ case (match-vector T ten-one (ip 10 2 2 3) .vector ∷ []) (32896 ∷ [])
+    -- P7: the same table: 11.0.0.1 gives none, 0 probes; with a default of hop 3 it gives hop 3, length 0, 0 probes
+    ∷ case (figures (lookup T ten-one (ip 11 0 0 1))) (none-after 0)
+    ∷ case (figures (lookup T ten-one-default (ip 11 0 0 1))) (finds 3 0 0)
+    -- P8: 10/8 and 8/8 fill a bucket, and 9/8 gets 8; with 8/8 withdrawn 10/8 is still found, and 9/8 goes into slot 1
+    ∷ case (add T ten-eight (ip 9 0 0 0) 8 6 .refusal ∷ []) (8 ∷ [])
+    ∷ case (figures (lookup T eight-gone (ip 10 2 2 3))) (finds 7 8 1)
+    ∷ case (nine-again .refusal ∷ prefix-at (nine-again .memory .slots) (slot-number T 8 (ip 9 0 0 0) 1) ∷ []) (0 ∷ ip 9 0 0 0 ∷ [])
+    -- P9: K 5, D 4, E 0, S 4, multipliers 0: three /32 routes bring the counter to 15, and a fourth gets 9
+    ∷ case (length (hosts (Z 5 4) 3 .counters) ∷ getD (hosts (Z 5 4) 3 .counters) (counter-place (Z 5 4) 32 0) 0 ∷ []) (512 ∷ 15 ∷ [])
+    ∷ case (add (Z 5 4) (hosts (Z 5 4) 3) 4 32 1 .refusal ∷ []) (9 ∷ [])
+    -- P10: K 8, D 4, E 0, multipliers 0: a second /32 gets 9 with S 2, and 8 with S 1
+    ∷ case (add (Z 8 2) (hosts (Z 8 2) 1) 2 32 1 .refusal ∷ []) (9 ∷ [])
+    ∷ case (add (Z 8 1) (hosts (Z 8 1) 1) 2 32 1 .refusal ∷ []) (8 ∷ [])
+    ∷ []
+
+-- the refusals at their limits, on a table of settings T that holds nothing
+refusals : List Case
+refusals =
+    -- length 32 passes and 33 gets 3, with a host bit too
+    case (add T (empty T) (ip 10 0 0 1) 32 7 .refusal ∷ []) (0 ∷ [])
+    ∷ case (add T (empty T) (ip 10 0 0 0) 33 7 .refusal ∷ []) (3 ∷ [])
+    ∷ case (add T (empty T) (ip 10 0 0 1) 33 7 .refusal ∷ []) (3 ∷ [])
+    -- a bit after the length gets 4, and length 0 has none
+    ∷ case (add T (empty T) (ip 10 0 0 1) 8 7 .refusal ∷ []) (4 ∷ [])
+    ∷ case (add T (empty T) 1 0 7 .refusal ∷ []) (4 ∷ [])
+    -- hop 65,535 passes and 65,536 gets 5
+    ∷ case (add T (empty T) (ip 10 0 0 0) 8 65535 .refusal ∷ []) (0 ∷ [])
+    ∷ case (add T (empty T) (ip 10 0 0 0) 8 65536 .refusal ∷ []) (5 ∷ [])
+    -- a list one longer or shorter gets 2
+    ∷ case (clear T (record { counters = replicate 511 0; slots = replicate 257 0 }) .refusal ∷ []) (2 ∷ [])
+    ∷ case (clear T (record { counters = replicate 513 0; slots = replicate 257 0 }) .refusal ∷ []) (2 ∷ [])
+    ∷ case (clear T (record { counters = replicate 512 0; slots = replicate 256 0 }) .refusal ∷ []) (2 ∷ [])
+    ∷ case (clear T (record { counters = replicate 512 0; slots = replicate 258 0 }) .refusal ∷ []) (2 ∷ [])
+    -- a setting out of its range gets 1, before the sizes are looked at
+    ∷ case (clear (settings 9 4 1 2 1 2 1) (empty T) .refusal ∷ clear (settings 0 4 1 2 1 2 1) (empty T) .refusal ∷ []) (1 ∷ 1 ∷ [])
+    ∷ case (clear (settings 2 12 1 2 1 2 1) (empty T) .refusal ∷ clear (settings 2 3 1 2 1 2 1) (empty T) .refusal ∷ []) (1 ∷ 1 ∷ [])
+    ∷ case (clear (settings 2 4 9 2 1 2 1) (empty T) .refusal ∷ []) (1 ∷ [])
+    ∷ case (clear (settings 2 4 1 9 1 2 1) (empty T) .refusal ∷ clear (settings 2 4 1 0 1 2 1) (empty T) .refusal ∷ []) (1 ∷ 1 ∷ [])
+    -- a prefix stored already gets 6, one not stored 7
+    ∷ case (add T ten (ip 10 0 0 0) 8 7 .refusal ∷ add T ten-one-default 0 0 3 .refusal ∷ []) (6 ∷ 6 ∷ [])
+    ∷ case (withdraw T ten (ip 11 0 0 0) 8 .refusal ∷ change T ten 0 0 3 .refusal ∷ []) (7 ∷ 7 ∷ [])
+    -- a counter below its hits gets 10: the slot is there, and the counters are all zero
+    ∷ case (withdraw T (record { counters = empty T .counters; slots = ten .slots }) (ip 10 0 0 0) 8 .refusal ∷ []) (10 ∷ [])
+    -- a mark of 65,537 is free
+    ∷ case (figures (lookup T (record { counters = ten .counters; slots = set (ten .slots) (mark-word (slot-number T 8 (ip 10 0 0 0) 0)) 65537 }) (ip 10 2 2 3))) (none-after 1)
+    ∷ []
+
+-- two lists of numbers are the same
+same : List ℕ → List ℕ → Bool
+same [] [] = true
+same [] (y ∷ ys) = false
+same (x ∷ xs) [] = false
+same (x ∷ xs) (y ∷ ys) = eqb x y && same xs ys
+
+-- each case comes out as it is said
+come-out : List Case → Bool
+come-out [] = true
+come-out (c ∷ cs) = same (c .gives) (c .says) && come-out cs
+
+all-come-out : come-out (worked ++ refusals) ≡ true
+unfolding worked refusals same come-out within all any count those lowest in-range wrap prefix steps filter-bits positions bucket counters-size filter-start counter-place counter-places slots-size slot-number prefix-word mark-word default-word occupied mark-of hop-of mark-at prefix-at default-mark holds free held vacant is-some stored refuse sized loose full hits passes-15 runs-short from-1 memory-refusal route-refusal add-refusal withdraw-refusal change-refusal update zeroed step-each with-slot with-default with-held added withdrawn changed clear add withdraw change claims bits-where vector-of match-vector down-from bit-set set-bits search default-answer place-answer refused answer-of lookup one-if
+all-come-out = refl

@@ -1,0 +1,4 @@
+-- The definitions that every contract and promise cites.
+pub mod Tools
+pub mod Table
+pub mod Ready

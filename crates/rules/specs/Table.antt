@@ -1,0 +1,394 @@
+-- The rules of the table, in the order of docs/TABLE.md. Every definition computes, on any numbers
+-- and any memory, damaged memory too.
+use Prim.Native.Nat.{ℕ, zero, suc, _+_, _-_, _*_, _/_, _%_, _^_}
+use mathlib.Core.Bool.{Bool, true, false, cond, not, _&&_}
+use mathlib.Core.List.{List, [], _∷_, map, foldl}
+use mathlib.Core.Option.{Option, some, none}
+use lib.ListN.{length, getD, set, replicate}
+use lib.Dec.{ltb, eqb}
+use Rattle.rules.specs.Tools.{within, all, any, count, those, lowest}
+use Rattle.rules.specs.declared.Settings.{Settings}
+use Rattle.rules.specs.declared.Place.{Place}
+use Rattle.rules.specs.declared.Place.the-variants.{At, Absent}
+use Rattle.rules.specs.declared.Answer.{Answer}
+use Rattle.rules.specs.declared.Vector.{Vector}
+
+-- ---- Settings
+
+-- K is 1 to 8, D 4 to 11, E 0 to 8 and S 1 to 8; A, B and C may be any number
+unfoldable pub in-range : Settings → Bool
+in-range t = within 1 8 (t .k) && (within 4 11 (t .d) && (within 0 8 (t .e) && within 1 8 (t .s)))
+
+-- what is left of a number of 32 bits when it has passed 2^32
+unfoldable pub wrap : ℕ → ℕ
+wrap n = n % 2 ^ 32
+
+-- the prefix of length L of an address: its last 32 − L bits are cleared
+unfoldable pub prefix : (L address : ℕ) → ℕ
+prefix L address = address / 2 ^ (32 - L) * 2 ^ (32 - L)
+
+-- the numbers g that double hashing goes through, so many of them: each is the last one grown, and wraps
+unfoldable pub steps : (many g growth : ℕ) → List ℕ
+steps zero g growth = []
+steps (suc many) g growth = g ∷ steps many (wrap (g + growth)) growth
+
+-- how many bits number a counter within the filter of length L: D
+unfoldable pub filter-bits : Settings → (L : ℕ) → ℕ
+filter-bits t L = t .d
+
+-- the K filter positions of p at length L: the top bits of A·p, and of it grown by B·p again and again
+unfoldable pub positions : Settings → (L p : ℕ) → List ℕ
+positions t L p = map (λ g. g / 2 ^ (32 - filter-bits t L)) (steps (t .k) (wrap (t .a * p)) (wrap (t .b * p)))
+
+-- the bucket of p: the top E bits of C·p; with E = 0 it is bucket 0
+unfoldable pub bucket : Settings → (p : ℕ) → ℕ
+bucket t p = wrap (t .c * p) / 2 ^ (32 - t .e)
+
+-- ---- Lent memory
+
+-- the two lists that are lent: counters as bytes, slots as words of 32 bits
+pub record Memory : Type 0 where
+  pub counters : List ℕ
+  pub slots : List ℕ
+
+-- two lent lists as memory
+abbrev pub lent : (counters slots : List ℕ) → Memory
+lent counters slots = record { counters = counters; slots = slots }
+
+-- how many counters there are: 2^D for each of 32 lengths
+unfoldable pub counters-size : Settings → ℕ
+counters-size t = 32 * 2 ^ t .d
+
+-- where the filter of length L begins among the counters
+unfoldable pub filter-start : Settings → (L : ℕ) → ℕ
+filter-start t L = (L - 1) * 2 ^ t .d
+
+-- where the counter of position j of length L lies
+unfoldable pub counter-place : Settings → (L j : ℕ) → ℕ
+counter-place t L j = filter-start t L + j
+
+-- where the K counters of p at length L lie
+unfoldable pub counter-places : Settings → (L p : ℕ) → List ℕ
+counter-places t L p = map (counter-place t L) (positions t L p)
+
+-- how many words the slots take: two for each slot of 32 lengths, and the default's mark
+unfoldable pub slots-size : Settings → ℕ
+slots-size t = 64 * 2 ^ t .e * t .s + 1
+
+-- the number of slot s of p's bucket at length L
+unfoldable pub slot-number : Settings → (L p s : ℕ) → ℕ
+slot-number t L p s = ((L - 1) * 2 ^ t .e + bucket t p) * t .s + s
+
+-- the word with slot n's prefix
+unfoldable pub prefix-word : (n : ℕ) → ℕ
+prefix-word n = 2 * n
+
+-- the word with slot n's mark
+unfoldable pub mark-word : (n : ℕ) → ℕ
+mark-word n = 2 * n + 1
+
+-- the last word of all is the default's mark
+unfoldable pub default-word : Settings → ℕ
+default-word t = slots-size t - 1
+
+-- a mark of 1 to 65,536 means occupied; every other one means free
+unfoldable pub occupied : (mark : ℕ) → Bool
+occupied mark = within 1 65536 mark
+
+-- the mark of a hop is one more than the hop
+unfoldable pub mark-of : (hop : ℕ) → ℕ
+mark-of hop = hop + 1
+
+-- the hop of an occupied mark
+unfoldable pub hop-of : (mark : ℕ) → ℕ
+hop-of mark = mark - 1
+
+-- the mark of slot n
+unfoldable pub mark-at : (slots : List ℕ) (n : ℕ) → ℕ
+mark-at slots n = getD slots (mark-word n) 0
+
+-- the prefix of slot n
+unfoldable pub prefix-at : (slots : List ℕ) (n : ℕ) → ℕ
+prefix-at slots n = getD slots (prefix-word n) 0
+
+-- the mark of the default route
+unfoldable pub default-mark : Settings → (slots : List ℕ) → ℕ
+default-mark t slots = getD slots (default-word t) 0
+
+-- ---- What is stored
+
+-- slot s of p's bucket at length L is occupied and holds p
+unfoldable pub holds : Settings → (slots : List ℕ) (L p s : ℕ) → Bool
+holds t slots L p s = let n = slot-number t L p s in occupied (mark-at slots n) && eqb (prefix-at slots n) p
+
+-- slot s of p's bucket at length L is free
+unfoldable pub free : Settings → (slots : List ℕ) (L p s : ℕ) → Bool
+free t slots L p s = not (occupied (mark-at slots (slot-number t L p s)))
+
+-- the lowest slot of the bucket that is occupied and holds p
+unfoldable pub held : Settings → (slots : List ℕ) (L p : ℕ) → Option ℕ
+held t slots L p = lowest (holds t slots L p) (t .s)
+
+-- the lowest free slot of the bucket
+unfoldable pub vacant : Settings → (slots : List ℕ) (L p : ℕ) → Option ℕ
+vacant t slots L p = lowest (free t slots L p) (t .s)
+
+-- there is such a slot
+unfoldable pub is-some : Option ℕ → Bool
+is-some (some s) = true
+is-some none = false
+
+-- p of length L is stored: in a slot of its own bucket or, for length 0, in the default's word
+unfoldable pub stored : Settings → (slots : List ℕ) (L p : ℕ) → Bool
+stored t slots L p = cond (eqb L 0) (occupied (default-mark t slots)) (is-some (held t slots L p))
+
+-- ---- Numbers given back for bad input
+
+-- a call on a bad input gives its number, whatever comes after
+unfoldable pub refuse : (bad : Bool) (number after : ℕ) → ℕ
+refuse bad number after = cond bad number after
+
+-- both lists are of exactly the size that the settings ask
+unfoldable pub sized : Settings → Memory → Bool
+sized t m = eqb (length (m .counters)) (counters-size t) && eqb (length (m .slots)) (slots-size t)
+
+-- a bit is set after the length
+unfoldable pub loose : (L p : ℕ) → Bool
+loose L p = not (eqb (prefix L p) p)
+
+-- a condition that only length 1 and up can meet: the default has no bucket and no filter
+unfoldable pub from-1 : (L : ℕ) → Bool → Bool
+from-1 L bad = cond (eqb L 0) false bad
+
+-- every slot of the bucket is occupied
+unfoldable pub full : Settings → (slots : List ℕ) (L p : ℕ) → Bool
+full t slots L p = not (is-some (vacant t slots L p))
+
+-- a counter's hits by p are how many of the K steps land on it
+unfoldable pub hits : Settings → (L p i : ℕ) → ℕ
+hits t L p i = count i (counter-places t L p)
+
+-- some counter plus its hits by p exceeds 15
+unfoldable pub passes-15 : Settings → (counters : List ℕ) (L p : ℕ) → Bool
+passes-15 t counters L p = any (λ i. ltb 15 (getD counters i 0 + hits t L p i)) (counter-places t L p)
+
+-- some counter is less than its hits by p
+unfoldable pub runs-short : Settings → (counters : List ℕ) (L p : ℕ) → Bool
+runs-short t counters L p = any (λ i. ltb (getD counters i 0) (hits t L p i)) (counter-places t L p)
+
+-- 1 and 2, which every call checks first
+unfoldable pub memory-refusal : Settings → Memory → (after : ℕ) → ℕ
+memory-refusal t m after = refuse (not (in-range t)) 1 (refuse (not (sized t m)) 2 after)
+
+-- 3 and 4, which every update checks next
+unfoldable pub route-refusal : Settings → Memory → (L p after : ℕ) → ℕ
+route-refusal t m L p after = memory-refusal t m (refuse (ltb 32 L) 3 (refuse (loose L p) 4 after))
+
+-- what add gives back; 0 is success
+unfoldable pub add-refusal : Settings → Memory → (p L hop : ℕ) → ℕ
+add-refusal t m p L hop =
+    route-refusal t m L p
+    (refuse (ltb 65535 hop) 5
+    (refuse (stored t (m .slots) L p) 6
+    (refuse (from-1 L (full t (m .slots) L p)) 8 (refuse (from-1 L (passes-15 t (m .counters) L p)) 9 0))))
+
+-- what withdraw gives back
+unfoldable pub withdraw-refusal : Settings → Memory → (p L : ℕ) → ℕ
+withdraw-refusal t m p L =
+    route-refusal t m L p
+    (refuse (not (stored t (m .slots) L p)) 7 (refuse (from-1 L (runs-short t (m .counters) L p)) 10 0))
+
+-- what change gives back
+unfoldable pub change-refusal : Settings → Memory → (p L hop : ℕ) → ℕ
+change-refusal t m p L hop = route-refusal t m L p (refuse (ltb 65535 hop) 5 (refuse (not (stored t (m .slots) L p)) 7 0))
+
+-- ---- What each call does
+
+-- what an update gives back and leaves
+pub record Update : Type 0 where
+  pub refusal : ℕ
+  pub memory : Memory
+
+-- a number given back, and the two lists as they are left
+abbrev pub left : (refusal : ℕ) (counters slots : List ℕ) → Update
+left refusal counters slots = record { refusal = refusal; memory = lent counters slots }
+
+-- a refused call leaves the memory as it was
+unfoldable pub update : (refusal : ℕ) (after before : Memory) → Update
+update refusal after before =
+    record { refusal = refusal; memory = cond (eqb refusal 0) after before }
+
+-- zero in every byte and word
+unfoldable pub zeroed : Memory → Memory
+zeroed m = lent (replicate (length (m .counters)) 0) (replicate (length (m .slots)) 0)
+
+-- each of these places, one after the other, has its counter stepped
+unfoldable pub step-each : (ℕ → ℕ) → List ℕ → (places : List ℕ) → List ℕ
+step-each step counters [] = counters
+step-each step counters (i ∷ places) = step-each step (set counters i (step (getD counters i 0))) places
+
+-- slot n holds a prefix and a mark
+unfoldable pub with-slot : (slots : List ℕ) (n p mark : ℕ) → List ℕ
+with-slot slots n p mark = set (set slots (prefix-word n) p) (mark-word n) mark
+
+-- the default's word holds a mark
+unfoldable pub with-default : Settings → Memory → (mark : ℕ) → Memory
+with-default t m mark = lent (m .counters) (set (m .slots) (default-word t) mark)
+
+-- a slot of p's bucket at length L, if there is one, holds a prefix and a mark
+unfoldable pub with-held : Settings → (slots : List ℕ) (L p : ℕ) → Option ℕ → (q mark : ℕ) → List ℕ
+with-held t slots L p (some s) q mark = with-slot slots (slot-number t L p s) q mark
+with-held t slots L p none q mark = slots
+
+-- add: the lowest free slot gets prefix and mark, and each of the K positions adds one to its counter
+unfoldable pub added : Settings → Memory → (p L hop : ℕ) → Memory
+added t m p L hop =
+    cond (eqb L 0) (with-default t m (mark-of hop))
+    (record {
+      counters = step-each (λ n. n + 1) (m .counters) (counter-places t L p);
+      slots = with-held t (m .slots) L p (vacant t (m .slots) L p) p (mark-of hop);
+    })
+
+-- withdraw: the slot that holds p gets two zeros, and each of the K positions takes one from its counter
+unfoldable pub withdrawn : Settings → Memory → (p L : ℕ) → Memory
+withdrawn t m p L =
+    cond (eqb L 0) (with-default t m 0)
+    (record {
+      counters = step-each (λ n. n - 1) (m .counters) (counter-places t L p);
+      slots = with-held t (m .slots) L p (held t (m .slots) L p) 0 0;
+    })
+
+-- change: the slot that holds p gets a new mark, and the counters stay
+unfoldable pub changed : Settings → Memory → (p L hop : ℕ) → Memory
+changed t m p L hop =
+    cond (eqb L 0) (with-default t m (mark-of hop))
+    (record {
+      counters = m .counters;
+      slots = with-held t (m .slots) L p (held t (m .slots) L p) p (mark-of hop);
+    })
+
+-- the four calls that write
+unfoldable pub clear : Settings → Memory → Update
+clear t m = update (memory-refusal t m 0) (zeroed m) m
+
+unfoldable pub add : Settings → Memory → (p L hop : ℕ) → Update
+add t m p L hop = update (add-refusal t m p L hop) (added t m p L hop) m
+
+unfoldable pub withdraw : Settings → Memory → (p L : ℕ) → Update
+withdraw t m p L = update (withdraw-refusal t m p L) (withdrawn t m p L) m
+
+unfoldable pub change : Settings → Memory → (p L hop : ℕ) → Update
+change t m p L hop = update (change-refusal t m p L hop) (changed t m p L hop) m
+
+-- the filter of length L claims p: all its K counters are nonzero
+unfoldable pub claims : Settings → (counters : List ℕ) (L p : ℕ) → Bool
+claims t counters L p = all (λ i. ltb 0 (getD counters i 0)) (counter-places t L p)
+
+-- the number whose bit L − 1 is set exactly where the test holds at L, for L from n down to 1
+unfoldable pub bits-where : (ℕ → Bool) → (n : ℕ) → ℕ
+bits-where test zero = 0
+bits-where test (suc n) = cond (test (suc n)) (2 ^ n) 0 + bits-where test n
+
+-- bit L − 1 of the vector is set exactly if the address is claimed at length L
+unfoldable pub vector-of : Settings → (counters : List ℕ) (address : ℕ) → ℕ
+vector-of t counters address = bits-where (λ L. claims t counters L (prefix L address)) 32
+
+-- the match vector, as it is given back
+unfoldable pub match-vector : Settings → Memory → (address : ℕ) → Vector
+match-vector t m address =
+    let refusal = memory-refusal t m 0 in
+    record { refusal = refusal; vector = cond (eqb refusal 0) (vector-of t (m .counters) address) 0 }
+
+-- n, n − 1 and so on down to 1
+unfoldable pub down-from : (n : ℕ) → List ℕ
+down-from zero = []
+down-from (suc n) = suc n ∷ down-from n
+
+-- bit L − 1 of the vector is set
+unfoldable pub bit-set : (vector L : ℕ) → Bool
+bit-set vector L = eqb (vector / 2 ^ (L - 1) % 2) 1
+
+-- the lengths whose bits are set in the vector, from the highest down
+unfoldable pub set-bits : (vector : ℕ) → List ℕ
+set-bits vector = those (bit-set vector) (down-from 32)
+
+-- the bucket at length L ends the search where it holds the prefix; else the search goes on
+abbrev pub found-or : Settings → (L p probes : ℕ) → Option ℕ → Place → Place
+found-or t L p probes (some s) after = At (slot-number t L p s) L probes
+found-or t L p probes none after = after
+
+-- the buckets of the address at these lengths are searched in order, each one probe more
+unfoldable pub search : Settings → (slots : List ℕ) (address probes : ℕ) → List ℕ → Place
+search t slots address probes [] = Absent
+search t slots address probes (L ∷ Ls) =
+    let p = prefix L address in
+    found-or t L p (probes + 1) (held t slots L p) (search t slots address (probes + 1) Ls)
+
+-- what the default answers after so many probes; none where its mark is free
+unfoldable pub default-answer : (mark probes : ℕ) → Answer
+default-answer mark probes =
+    record {
+      refusal = 0;
+      found = occupied mark;
+      hop = cond (occupied mark) (hop-of mark) 0;
+      length = 0;
+      probes = probes;
+    }
+
+-- what a search's place answers: its slot's hop; where there is none the default, after as many probes as the vector has ones
+unfoldable pub place-answer : Settings → (slots : List ℕ) (ones : ℕ) → Place → Answer
+place-answer t slots ones (At n L probes) =
+    record { refusal = 0; found = true; hop = hop-of (mark-at slots n); length = L; probes = probes }
+place-answer t slots ones Absent = default-answer (default-mark t slots) ones
+
+-- the answer that carries a refusal
+unfoldable pub refused : (refusal : ℕ) → Answer
+refused refusal = record { refusal = refusal; found = false; hop = 0; length = 0; probes = 0 }
+
+-- what the set bits of the match vector, from the highest down, and then the default answer
+unfoldable pub answer-of : Settings → Memory → (address : ℕ) → Answer
+answer-of t m address =
+    let lengths = set-bits (vector-of t (m .counters) address) in
+    place-answer t (m .slots) (length lengths) (search t (m .slots) address 0 lengths)
+
+-- lookup, as it is given back
+unfoldable pub lookup : Settings → Memory → (address : ℕ) → Answer
+lookup t m address =
+    let refusal = memory-refusal t m 0 in
+    cond (eqb refusal 0) (answer-of t m address) (refused refusal)
+
+-- ---- The numbers as they cross to C
+
+-- the words of a list of bytes, four to a word, the low byte first
+unfoldable pub whole-words : (bytes : List ℕ) → List ℕ
+whole-words [] = []
+whole-words (b0 ∷ []) = []
+whole-words (b0 ∷ b1 ∷ []) = []
+whole-words (b0 ∷ b1 ∷ b2 ∷ []) = []
+whole-words (b0 ∷ b1 ∷ b2 ∷ b3 ∷ bytes) = (b0 + b1 * 2 ^ 8 + b2 * 2 ^ 16 + b3 * 2 ^ 24) ∷ whole-words bytes
+
+-- bytes that are no whole words are no slots, so their size is wrong for any settings
+unfoldable pub words : (bytes : List ℕ) → List ℕ
+words bytes = cond (eqb (length bytes % 4) 0) (whole-words bytes) []
+
+-- found as a number
+unfoldable pub one-if : Bool → ℕ
+one-if found = cond found 1 0
+
+-- a lookup's answer as one number
+unfoldable pub answer-number : Answer → ℕ
+answer-number r =
+    r .refusal * 2 ^ 48 + one-if (r .found) * 2 ^ 40 + r .hop * 2 ^ 16 + r .length * 2 ^ 8 + r .probes
+
+-- a match vector as one number
+unfoldable pub vector-number : Vector → ℕ
+vector-number r = r .refusal * 2 ^ 48 + r .vector
+
+-- lookup from C: the slots cross as bytes
+unfoldable pub c-lookup : Settings → (counters slots : List ℕ) (address : ℕ) → ℕ
+c-lookup t counters slots address = answer-number (lookup t (lent counters (words slots)) address)
+
+-- match vector from C
+unfoldable pub c-match-vector : Settings → (counters slots : List ℕ) (address : ℕ) → ℕ
+c-match-vector t counters slots address =
+    vector-number (match-vector t (lent counters (words slots)) address)

@@ -1,0 +1,44 @@
+// The rules of the gateway table, as definitions that are computed (specs/) and laws about them
+// (proofs/). There is no code here: only the types that the definitions and every call share.
+
+// What a table is built with. Any seven numbers can be given; those out of range are refused.
+pub struct Settings {
+    // K, hash steps.
+    pub k: u32,
+    // D: a filter has 2^D counters.
+    pub d: u32,
+    // E: a length has 2^E buckets.
+    pub e: u32,
+    // S, slots in a bucket.
+    pub s: u32,
+    // A, B and C, the multipliers.
+    pub a: u32,
+    pub b: u32,
+    pub c: u32,
+}
+
+// Where a search of buckets ends: the slot's number, the length at which it lies and the buckets
+// searched; or nowhere.
+pub enum Place {
+    At {
+        slot: usize,
+        length: u32,
+        probes: u32,
+    },
+    Absent,
+}
+
+// What a lookup answers. A refusal has its number and zero elsewhere; 0 is no refusal.
+pub struct Answer {
+    pub refusal: u32,
+    pub found: bool,
+    pub hop: u32,
+    pub length: u32,
+    pub probes: u32,
+}
+
+// What a match vector is asked for: the vector, or a refusal's number and zero.
+pub struct Vector {
+    pub refusal: u32,
+    pub vector: u32,
+}
