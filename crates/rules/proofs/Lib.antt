@@ -1,2 +1,11 @@
 -- The laws that other crates cite, and the worked cases.
+pub mod Found
+pub mod Lowest
+pub mod Members
+pub mod Placing
+pub mod Prefixes
+pub mod Refusals
+pub mod Steps
+pub mod Told
+pub mod Vectors
 pub mod Worked

@@ -1,0 +1,58 @@
+-- Slots of a bucket by their number: what the code counts from the first one is `slot-number`, and lies within the lent words.
+use Prim.Native.Nat.{ℕ, _+_, _-_, _*_, _%_, _^_, _≤_, _<_}
+use mathlib.Core.Path.{_≡_, ap}
+use mathlib.Core.Bool.{Bool, not, _&&_}
+use mathlib.Core.List.{List}
+use native.Mathlib.Nat.{mul-le-mul, mod-eq-of-lt}
+use native.Mathlib.Omega.{arith}
+use lib.Dec.{eqb}
+use lib.ListN.{length}
+use lib.Pow.{pow-mono}
+use Rattle.rules.specs.declared.Settings.{Settings}
+use Rattle.rules.specs.Table.{bucket, slot-number, mark-word, default-word, mark-at, prefix-at, occupied, free, holds}
+use Rattle.rules.specs.Ready.{Ready, Slots}
+use Rattle.rules.proofs.Placing.{ranges, bucket-lt, words-fit, default-fits}
+
+module _ (t : Settings) (L p : ℕ) (ready : Ready t L) where
+  -- the buckets of the lengths before L are few, so that their number does not wrap
+  before-small : (L - 1) * 2 ^ t .e ≤ 31 * 2 ^ 8
+  before-small = mul-le-mul {n₂ = 31} (omega (arith, ready .high)) (pow-mono (ranges t (ready .range) .e-high))
+
+  pub before-whole : (L - 1) * 2 ^ t .e % 2 ^ 64 ≡ (L - 1) * 2 ^ t .e
+  before-whole = mod-eq-of-lt (omega (arith, before-small))
+
+  -- with the bucket's own number they are few too, and so are the slots
+  pub bucket-small : (L - 1) * 2 ^ t .e + bucket t p ≤ 32 * 2 ^ 8
+  bucket-small = omega (arith, before-small, bucket-lt t p (ready .range), pow-mono (ranges t (ready .range) .e-high))
+
+  pub first-small : ((L - 1) * 2 ^ t .e + bucket t p) * t .s ≤ 32 * 2 ^ 8 * 8
+  first-small = mul-le-mul bucket-small (ranges t (ready .range) .s-high)
+
+-- slot s is counted from the first slot
+pub counted : (t : Settings) (L p s first : ℕ) → first ≡ slot-number t L p 0 → first + s ≡ slot-number t L p s
+unfolding slot-number
+counted t L p s first from = omega arith
+
+module _ (t : Settings) (slots : List ℕ) (L p s first : ℕ) (from : first ≡ slot-number t L p 0) where
+  -- its words are lent
+  pub is-lent : Ready t L → Slots t slots → s < t .s → mark-word (first + s) < length slots
+  is-lent ready sized h =
+      rw (counted t L p s first from, sized .size) (omega (arith, words-fit t L p s ready h .mark, default-fits t))
+
+  -- the test of its mark is the rules'
+  pub free-by : (mark : ℕ) (r : Bool) → mark ≡ mark-at slots (first + s) → r ≡ occupied mark → free t slots L p s ≡ not r
+  unfolding free
+  free-by mark r m o = rw (o, m, counted t L p s first from)
+
+  -- and so is that of mark and prefix
+  pub holds-by : (r : Bool) → r ≡ occupied (mark-at slots (first + s)) && eqb (prefix-at slots (first + s)) p → holds t slots L p s ≡ r
+  unfolding holds
+  holds-by r h = rw (h, counted t L p s first from)
+
+-- the last word is the default's
+pub some-word : (t : Settings) (slots : List ℕ) → Slots t slots → 1 ≤ length slots
+some-word t slots lent = omega (arith, default-fits t, lent .size)
+
+pub last-word : (t : Settings) (slots : List ℕ) → Slots t slots → length slots - 1 ≡ default-word t
+unfolding default-word
+last-word t slots lent = ap (λ (n : ℕ). n - 1) (lent .size)

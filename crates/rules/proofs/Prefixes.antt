@@ -1,0 +1,66 @@
+-- Prefixes of an address: to cut at one length and then at a shorter one is to cut at the shorter, as one quotient of another.
+use Prim.Native.Nat.{ℕ, _+_, _-_, _*_, _/_, _%_, _^_, _≤_, _<_}
+use mathlib.Core.Path.{_≡_, sym, ap, _∙_}
+use mathlib.Core.Bool.{false}
+use mathlib.Core.Logic.{_↔_}
+use native.Mathlib.Nat.{le-refl, lt-of-le-of-lt, div-one, mul-one, div-eq-of-lt, div-mul-le-self, mul-mod-left}
+use native.Mathlib.Omega.{arith}
+use lib.Dec.{eqb}
+use lib.Pow.{shr-shr, shl-shr}
+use borrow.Author.Tests.{eqb-true, eq-eqb, not-false}
+use Rattle.rules.specs.Table.{prefix, loose}
+
+-- a prefix is at most its address
+pub prefix-le : (L address : ℕ) → prefix L address ≤ address
+unfolding prefix
+prefix-le L address = div-mul-le-self address (2 ^ (32 - L))
+
+pub prefix-lt : (L address : ℕ) → address < 2 ^ 32 → prefix L address < 2 ^ 32
+prefix-lt L address h = lt-of-le-of-lt (prefix-le L address) h
+
+-- no bit is set after its length
+pub prefix-low : (L address : ℕ) → prefix L address % 2 ^ (32 - L) ≡ 0
+unfolding prefix
+prefix-low L address = mul-mod-left (address / 2 ^ (32 - L)) (2 ^ (32 - L))
+
+-- the shorter prefix of a prefix is that of the address
+pub prefix-shorter : (L M address : ℕ) → L ≤ M → prefix L (prefix M address) ≡ prefix L address
+unfolding prefix
+prefix-shorter L M address h = ap (λ (q : ℕ). q * 2 ^ (32 - L)) quotient
+  where
+    rest : (32 - M) + ((32 - L) - (32 - M)) ≡ 32 - L
+    rest = omega arith
+
+    in-two : (n : ℕ) → n / 2 ^ (32 - L) ≡ n / 2 ^ (32 - M) / 2 ^ ((32 - L) - (32 - M))
+    in-two n = ap (λ (k : ℕ). n / 2 ^ k) (sym rest) ∙ sym (shr-shr n (32 - M) ((32 - L) - (32 - M)))
+
+    quotient : address / 2 ^ (32 - M) * 2 ^ (32 - M) / 2 ^ (32 - L) ≡ address / 2 ^ (32 - L)
+    quotient =
+        in-two (address / 2 ^ (32 - M) * 2 ^ (32 - M))
+        ∙ ap (λ (q : ℕ). q / 2 ^ ((32 - L) - (32 - M))) (shl-shr (address / 2 ^ (32 - M)) (32 - M))
+        ∙ sym (in-two address)
+
+-- a prefix is its own prefix
+pub prefix-again : (L address : ℕ) → prefix L (prefix L address) ≡ prefix L address
+prefix-again L address = prefix-shorter L L address (le-refl L)
+
+-- addresses that agree at a length agree at each shorter one
+pub prefix-agree : (L M a b : ℕ) → L ≤ M → prefix M a ≡ prefix M b → prefix L a ≡ prefix L b
+prefix-agree L M a b h e = sym (prefix-shorter L M a h) ∙ ap (prefix L) e ∙ prefix-shorter L M b h
+
+-- at length 0 nothing is left, and at length 32 all of it
+pub prefix-zero : (address : ℕ) → address < 2 ^ 32 → prefix 0 address ≡ 0
+unfolding prefix
+prefix-zero address h = ap (λ (q : ℕ). q * 2 ^ 32) (div-eq-of-lt h)
+
+pub prefix-32 : (address : ℕ) → prefix 32 address ≡ address
+unfolding prefix
+prefix-32 address = mul-one (address / 1) ∙ div-one address
+
+-- a number with no bit set after the length is a prefix of that length
+pub loose-false : (L p : ℕ) → (loose L p ≡ false) ↔ (prefix L p ≡ p)
+unfolding loose
+loose-false L p = (λ h. eqb-true (prefix L p) p (not-false (eqb (prefix L p) p) h), λ e. rw (eq-eqb (prefix L p) p e))
+
+pub loose-prefix : (L address : ℕ) → loose L (prefix L address) ≡ false
+loose-prefix L address = loose-false L (prefix L address) .1 (prefix-again L address)

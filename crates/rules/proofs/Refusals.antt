@@ -1,0 +1,101 @@
+-- The checks that calls share, as laws: a check passes on what comes after it or gives its own number, and what passed is known.
+use Prim.Native.Nat.{ℕ, suc, _≤_}
+use mathlib.Core.Path.{_≡_, refl, sym, ap, _∙_}
+use mathlib.Core.Bool.{Bool, true, false, not, _&&_}
+use mathlib.Core.List.{List}
+use native.Mathlib.Nat.{suc-ne-zero}
+use lib.Dec.{ltb, eqb}
+use lib.ListN.{length}
+use borrow.Author.Tests.{ltb-false, le-ltb, eqb-true, eq-eqb, not-false}
+use Rattle.rules.specs.declared.Settings.{Settings}
+use Rattle.rules.specs.Table.{Memory, lent, in-range, counters-size, slots-size, prefix, refuse, sized, loose, memory-refusal, route-refusal}
+use Rattle.rules.proofs.Members.{both}
+use Rattle.rules.proofs.Prefixes.{loose-false}
+
+-- checks that pass on what comes after them, or give their own number whatever comes after
+pub record Passing (checks : ℕ → ℕ) : Type 0 where
+  pub accepts : checks 0 ≡ 0 → (after : ℕ) → checks after ≡ after
+  pub refuses : (checks 0 ≡ 0 → ⊥) → (after : ℕ) → checks after ≡ checks 0
+
+none-passing : Passing (λ after. after)
+none-passing = record { accepts = λ e after. refl; refuses = λ ne after. absurd (ne refl) }
+
+-- one check more in front
+more-passing : (bad : Bool) (number : ℕ) {checks : ℕ → ℕ} → Passing checks → Passing (λ after. refuse bad (suc number) (checks after))
+unfolding refuse
+more-passing true number h = record { accepts = λ e after. absurd (suc-ne-zero number e); refuses = λ ne after. refl }
+more-passing false number h = h
+
+pub memory-passing : (t : Settings) (m : Memory) → Passing (memory-refusal t m)
+unfolding memory-refusal
+memory-passing t m = more-passing (not (in-range t)) 0 (more-passing (not (sized t m)) 1 none-passing)
+
+pub route-passing : (t : Settings) (m : Memory) (L p : ℕ) → Passing (route-refusal t m L p)
+unfolding route-refusal memory-refusal
+route-passing t m L p =
+    more-passing (not (in-range t)) 0
+    (more-passing (not (sized t m)) 1 (more-passing (ltb 32 L) 2 (more-passing (loose L p) 3 none-passing)))
+
+-- a check that passed: its condition does not hold, and those after it passed
+passed : (bad : Bool) (number after : ℕ) → refuse bad (suc number) after ≡ 0 → (bad ≡ false) × (after ≡ 0)
+unfolding refuse
+passed true number after e = absurd (suc-ne-zero number e)
+passed false number after e = (refl, e)
+
+-- what 1 and 2 not given tells
+pub record Fitted (t : Settings) (counters slots : List ℕ) : Type 0 where
+  pub range : in-range t ≡ true
+  pub counters-fit : length counters ≡ counters-size t
+  pub slots-fit : length slots ≡ slots-size t
+
+pub memory-passed : (t : Settings) (counters slots : List ℕ) (after : ℕ) → memory-refusal t (lent counters slots) after ≡ 0
+    → Fitted t counters slots × (after ≡ 0)
+unfolding memory-refusal sized
+memory-passed t counters slots after e =
+    let one = passed (not (in-range t)) 0 (refuse (not (sized t (lent counters slots))) 2 after) e in
+    let two = passed (not (sized t (lent counters slots))) 1 after (one .1) in
+    let sizes = both (eqb (length counters) (counters-size t)) (eqb (length slots) (slots-size t)) (not-false _ (two .0)) in (
+      record {
+        range = not-false _ (one .0);
+        counters-fit = eqb-true _ _ (sizes .0);
+        slots-fit = eqb-true _ _ (sizes .1);
+      },
+      two .1,
+    )
+
+-- and the other way
+pub fits : (t : Settings) (counters slots : List ℕ) → Fitted t counters slots
+    → (after : ℕ) → memory-refusal t (lent counters slots) after ≡ after
+unfolding memory-refusal sized refuse
+fits t counters slots f after =
+    simp (f .range, eq-eqb _ _ (f .counters-fit), eq-eqb _ _ (f .slots-fit))
+
+-- what 1 to 4 not given tells
+pub record RouteFitted (t : Settings) (counters slots : List ℕ) (L p : ℕ) : Type 0 where
+  pub memory : Fitted t counters slots
+  pub high : L ≤ 32
+  pub tight : prefix L p ≡ p
+
+pub route-passed : (t : Settings) (counters slots : List ℕ) (L p after : ℕ) → route-refusal t (lent counters slots) L p after ≡ 0
+    → RouteFitted t counters slots L p × (after ≡ 0)
+unfolding route-refusal
+route-passed t counters slots L p after e =
+    let two = memory-passed t counters slots (refuse (ltb 32 L) 3 (refuse (loose L p) 4 after)) e in
+    let three = passed (ltb 32 L) 2 (refuse (loose L p) 4 after) (two .1) in
+    let four = passed (loose L p) 3 after (three .1) in
+    (record { memory = two .0; high = ltb-false _ _ (three .0); tight = loose-false L p .0 (four .0) }, four .1)
+
+-- and the other way
+pub route-fits : (t : Settings) (counters slots : List ℕ) (L p : ℕ) → RouteFitted t counters slots L p
+    → (after : ℕ) → route-refusal t (lent counters slots) L p after ≡ after
+unfolding route-refusal refuse
+route-fits t counters slots L p f after =
+    fits t counters slots (f .memory) _ ∙ simp (le-ltb _ _ (f .high), loose-false L p .1 (f .tight))
+
+-- a number that checks gave back, of a call that goes no further where it is not 0
+module _ {checks : ℕ → ℕ} (passing : Passing checks) {given : ℕ} (e : given ≡ checks 0) where
+  pub stopped : (given ≡ 0 → ⊥) → (after : ℕ) → given ≡ checks after
+  stopped bad after = e ∙ sym (passing .refuses (λ z. bad (e ∙ z)) after)
+
+  pub let-by : given ≡ 0 → (after : ℕ) → checks after ≡ after
+  let-by good after = passing .accepts (sym e ∙ good) after

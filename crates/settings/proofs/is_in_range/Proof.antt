@@ -1,0 +1,64 @@
+-- The four tests stand in the order of `in-range`, so each way out has those before it.
+use borrow.Author.Needs.{needs}
+use Rattle.rules.proofs.Told.{told-false, told-true}
+use Rattle.rules.specs.Table.{in-range}
+use Rattle.settings.proofs.is_in_range.Statement.{statement}
+use Rattle.settings.proofs.is_in_range.Tie as tie
+
+is-within-requires : tie.Need-is-within-requires
+is-within-requires c κs = search needs
+
+returns : tie.Need-returns
+unfolding in-range
+returns c = simp (told-false (c .before .is-within .ensures) (c .if1 .taken))
+
+is-within-requires-2 : tie.Need-is-within-requires-2
+is-within-requires-2 c κs = search needs
+
+returns-2 : tie.Need-returns-2
+unfolding in-range
+returns-2 c =
+    simp (
+      told-true (c .before .before .before .is-within .ensures) (c .before .before .if1 .left),
+      told-false (c .before .is-within2 .ensures) (c .if2 .taken),
+    )
+
+is-within-requires-3 : tie.Need-is-within-requires-3
+is-within-requires-3 c κs = search needs
+
+returns-3 : tie.Need-returns-3
+unfolding in-range
+returns-3 c =
+    let d = c .before .before in
+    simp (
+      told-true (d .before .before .before .is-within .ensures) (d .before .before .if1 .left),
+      told-true (d .before .is-within2 .ensures) (d .if2 .left),
+      told-false (c .before .is-within3 .ensures) (c .if3 .taken),
+    )
+
+is-within-requires-4 : tie.Need-is-within-requires-4
+is-within-requires-4 c κs = search needs
+
+returns-4 : tie.Need-returns-4
+unfolding in-range
+returns-4 c =
+    let d = c .before .before .before in
+    simp (
+      told-true (d .before .before .before .is-within .ensures) (d .before .before .if1 .left),
+      told-true (d .before .is-within2 .ensures) (d .if2 .left),
+      told-true (c .before .before .is-within3 .ensures) (c .before .if3 .left),
+    )
+    (c .is-within4 .ensures)
+
+pub is-in-range-spec : {M : Type 1} → statement M
+is-in-range-spec =
+    tie.close
+    (tie.spec
+    is-within-requires
+    returns
+    is-within-requires-2
+    returns-2
+    is-within-requires-3
+    returns-3
+    is-within-requires-4
+    returns-4)
