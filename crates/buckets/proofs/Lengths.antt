@@ -36,7 +36,3 @@ pub search-longest : (t : Settings) (slots : List ℕ) (address probes v L p : �
 unfolding search
 search-longest t slots address probes v L p own at =
     rw (set-bits-top v L (at .low) (at .high) (at .reached) (at .passed), own)
-
--- the bit of a length does not leave the 32
-pub one-bit : (L : ℕ) → 1 ≤ L → L ≤ 32 → 1 * 2 ^ (L - 1) % 2 ^ 32 ≡ 2 ^ (L - 1)
-one-bit L low high = shl-exact {a = 1} 1 (L - 1) 32 (omega arith) (omega arith) ∙ one-mul (2 ^ (L - 1))

@@ -1,4 +1,5 @@
 -- The laws that other crates cite, and the worked cases.
+pub mod Answers
 pub mod Found
 pub mod Lowest
 pub mod Members
@@ -7,5 +8,6 @@ pub mod Prefixes
 pub mod Refusals
 pub mod Steps
 pub mod Told
+pub mod Updates
 pub mod Vectors
 pub mod Worked

@@ -10,7 +10,7 @@ use lib.ListN.{length, length-map}
 use lib.Pow.{pow-pos, shr-lt, split}
 use Rattle.rules.specs.declared.Settings.{Settings}
 use Rattle.rules.specs.Tools.{within, count}
-use Rattle.rules.specs.Table.{in-range, wrap, steps, filter-bits, positions, bucket, counters-size, filter-start, counter-place, counter-places, slots-size, slot-number, prefix-word, mark-word, default-word, hits}
+use Rattle.rules.specs.Table.{occupied, in-range, wrap, steps, filter-bits, positions, bucket, counters-size, filter-start, counter-place, counter-places, slots-size, slot-number, prefix-word, mark-word, default-word, hits}
 use Rattle.rules.specs.Ready.{Ready}
 use Rattle.rules.proofs.Members.{Among, both, within-true, among-none, among-cases, among-map, count-map}
 
@@ -244,3 +244,8 @@ words-fit t L p s ready h =
 pub default-fits : (t : Settings) → default-word t < slots-size t
 unfolding default-word slots-size
 default-fits t = omega arith
+
+-- an occupied mark is at least 1
+pub occupied-low : (mark : ℕ) → occupied mark ≡ true → 1 ≤ mark
+unfolding occupied
+occupied-low mark h = within-true 1 65536 mark h .0

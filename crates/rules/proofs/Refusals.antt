@@ -6,9 +6,9 @@ use mathlib.Core.List.{List}
 use native.Mathlib.Nat.{suc-ne-zero}
 use lib.Dec.{ltb, eqb}
 use lib.ListN.{length}
-use borrow.Author.Tests.{ltb-false, le-ltb, eqb-true, eq-eqb, not-false}
+use borrow.Author.Tests.{ltb-false, le-ltb, eqb-true, eq-eqb, ne-eqb, not-false}
 use Rattle.rules.specs.declared.Settings.{Settings}
-use Rattle.rules.specs.Table.{Memory, lent, in-range, counters-size, slots-size, prefix, refuse, sized, loose, memory-refusal, route-refusal}
+use Rattle.rules.specs.Table.{Memory, lent, in-range, counters-size, slots-size, prefix, stored, full, passes-15, runs-short, refuse, from-1, sized, loose, memory-refusal, route-refusal, add-refusal, withdraw-refusal, change-refusal, update}
 use Rattle.rules.proofs.Members.{both}
 use Rattle.rules.proofs.Prefixes.{loose-false}
 
@@ -37,7 +37,7 @@ route-passing t m L p =
     (more-passing (not (sized t m)) 1 (more-passing (ltb 32 L) 2 (more-passing (loose L p) 3 none-passing)))
 
 -- a check that passed: its condition does not hold, and those after it passed
-passed : (bad : Bool) (number after : ℕ) → refuse bad (suc number) after ≡ 0 → (bad ≡ false) × (after ≡ 0)
+pub passed : (bad : Bool) (number after : ℕ) → refuse bad (suc number) after ≡ 0 → (bad ≡ false) × (after ≡ 0)
 unfolding refuse
 passed true number after e = absurd (suc-ne-zero number e)
 passed false number after e = (refl, e)
@@ -99,3 +99,72 @@ module _ {checks : ℕ → ℕ} (passing : Passing checks) {given : ℕ} (e : gi
 
   pub let-by : given ≡ 0 → (after : ℕ) → checks after ≡ after
   let-by good after = passing .accepts (sym e ∙ good) after
+
+-- a condition that only length 1 and up can meet, at such a length
+pub from-one : (L : ℕ) (bad : Bool) → (L ≡ 0 → ⊥) → from-1 L bad ≡ bad
+unfolding from-1
+from-one L bad up = simp (ne-eqb _ _ up)
+
+-- what an accepted add tells
+pub record AddFitted (t : Settings) (counters slots : List ℕ) (p L hop : ℕ) : Type 0 where
+  pub route : RouteFitted t counters slots L p
+  pub small : hop ≤ 65535
+  pub fresh : stored t slots L p ≡ false
+  pub room : from-1 L (full t slots L p) ≡ false
+  pub level : from-1 L (passes-15 t counters L p) ≡ false
+
+pub add-passed : (t : Settings) (counters slots : List ℕ) (p L hop : ℕ) → add-refusal t (lent counters slots) p L hop ≡ 0
+    → AddFitted t counters slots p L hop
+unfolding add-refusal
+add-passed t counters slots p L hop e =
+    let nine = refuse (from-1 L (passes-15 t counters L p)) 9 0 in
+    let eight = refuse (from-1 L (full t slots L p)) 8 nine in
+    let six = refuse (stored t slots L p) 6 eight in
+    let to4 = route-passed t counters slots L p (refuse (ltb 65535 hop) 5 six) e in
+    let to5 = passed (ltb 65535 hop) 4 six (to4 .1) in
+    let to6 = passed (stored t slots L p) 5 eight (to5 .1) in
+    let to8 = passed (from-1 L (full t slots L p)) 7 nine (to6 .1) in
+    let to9 = passed (from-1 L (passes-15 t counters L p)) 8 0 (to8 .1) in
+    record { route = to4 .0; small = ltb-false _ _ (to5 .0); fresh = to6 .0; room = to8 .0; level = to9 .0 }
+
+-- what an accepted withdrawal tells
+pub record WithdrawFitted (t : Settings) (counters slots : List ℕ) (p L : ℕ) : Type 0 where
+  pub route : RouteFitted t counters slots L p
+  pub there : stored t slots L p ≡ true
+  pub level : from-1 L (runs-short t counters L p) ≡ false
+
+pub withdraw-passed : (t : Settings) (counters slots : List ℕ) (p L : ℕ) → withdraw-refusal t (lent counters slots) p L ≡ 0
+    → WithdrawFitted t counters slots p L
+unfolding withdraw-refusal
+withdraw-passed t counters slots p L e =
+    let ten = refuse (from-1 L (runs-short t counters L p)) 10 0 in
+    let to4 = route-passed t counters slots L p (refuse (not (stored t slots L p)) 7 ten) e in
+    let to7 = passed (not (stored t slots L p)) 6 ten (to4 .1) in
+    let to10 = passed (from-1 L (runs-short t counters L p)) 9 0 (to7 .1) in
+    record { route = to4 .0; there = not-false _ (to7 .0); level = to10 .0 }
+
+-- what an accepted change tells
+pub record ChangeFitted (t : Settings) (counters slots : List ℕ) (p L hop : ℕ) : Type 0 where
+  pub route : RouteFitted t counters slots L p
+  pub small : hop ≤ 65535
+  pub there : stored t slots L p ≡ true
+
+pub change-passed : (t : Settings) (counters slots : List ℕ) (p L hop : ℕ) → change-refusal t (lent counters slots) p L hop ≡ 0
+    → ChangeFitted t counters slots p L hop
+unfolding change-refusal
+change-passed t counters slots p L hop e =
+    let seven = refuse (not (stored t slots L p)) 7 0 in
+    let to4 = route-passed t counters slots L p (refuse (ltb 65535 hop) 5 seven) e in
+    let to5 = passed (ltb 65535 hop) 4 seven (to4 .1) in
+    let to7 = passed (not (stored t slots L p)) 6 0 (to5 .1) in
+    record { route = to4 .0; small = ltb-false _ _ (to5 .0); there = not-false _ (to7 .0) }
+
+-- an update whose checks gave this number
+module _ (refusal : ℕ) (after before : Memory) {given : ℕ} (e : given ≡ refusal) where
+  pub refused-by : (given ≡ 0 → ⊥) → update refusal after before ≡ record { refusal = given; memory = before }
+  unfolding update
+  refused-by bad = rw (← e, ne-eqb _ _ bad)
+
+  pub accepted-by : given ≡ 0 → update refusal after before ≡ record { refusal = 0; memory = after }
+  unfolding update
+  accepted-by good = rw (← e, good)

@@ -3,16 +3,17 @@ use Prim.Native.Nat.{ℕ, zero, suc, _+_, _-_, _*_, _/_, _%_, _^_, _≤_, _<_, z
 use mathlib.Core.Path.{_≡_, refl, sym, ap, _∙_}
 use mathlib.Core.Bool.{Bool, true, false, cond}
 use mathlib.Core.List.{List, [], _∷_}
-use native.Mathlib.Nat.{not-suc-le-zero, le-of-suc-le-suc, le-refl, mul-assoc, le-suc-iff, zero-add, pow-suc, two-pow-succ, sub-self, lt-of-lt-of-le, le-trans, le-step, div-eq-of-lt, mul-add-div-right, mul-add-mod-self-right, mod-lt}
+use native.Mathlib.Nat.{not-suc-le-zero, le-of-suc-le-suc, le-refl, mul-assoc, le-suc-iff, zero-add, pow-suc, one-mul, two-pow-succ, sub-self, lt-of-lt-of-le, le-trans, le-step, div-eq-of-lt, mul-add-div-right, mul-add-mod-self-right, mod-lt}
 use mathlib.Core.Logic.{_⊎_, inl, inr}
 use native.Mathlib.Decide.{le-ind}
-use native.Mathlib.Numerals.{sub-one, one-add}
+use native.Mathlib.Numerals.{add-one, sub-one, one-add}
 use native.Mathlib.Omega.{arith}
 use lib.Arith.{lt-one}
+use lib.Bits.{bitOr, or-shifted-r}
 use lib.Count.{ones, ones-cat}
 use lib.Dec.{eqb}
 use lib.ListN.{length}
-use lib.Pow.{pow-pos, pow-lt, pow-mono, pow-add, split, high, shr-lt}
+use lib.Pow.{shl-exact, pow-pos, pow-lt, pow-mono, pow-add, split, high, shr-lt}
 use Rattle.rules.specs.Tools.{those}
 use Rattle.rules.specs.Table.{bits-where, down-from, bit-set, set-bits}
 
@@ -151,3 +152,19 @@ ones-those (suc n) v h =
 pub ones-set-bits : (v : ℕ) → v < 2 ^ 32 → ones v ≡ length (set-bits v)
 unfolding set-bits
 ones-set-bits v h = ones-those 32 v h
+
+-- the bit of a length, as a shift makes it, does not leave the 32
+pub one-bit : (L : ℕ) → 1 ≤ L → L ≤ 32 → 1 * 2 ^ (L - 1) % 2 ^ 32 ≡ 2 ^ (L - 1)
+one-bit L low high = shl-exact {a = 1} 1 (L - 1) 32 (omega arith) (omega arith) ∙ one-mul (2 ^ (L - 1))
+
+-- one length more: its bit is set where the test holds there
+module _ (test : ℕ → Bool) (n vector : ℕ) (so-far : vector ≡ bits-where test n) where
+  pub bit-more : test (n + 1) ≡ true → bitOr vector (2 ^ n) ≡ bits-where test (n + 1)
+  unfolding bits-where
+  bit-more holds =
+      rw (so-far, add-one n, ← (one-mul (2 ^ n)), or-shifted-r 1 n (bits-where test n) (bits-lt test n))
+      (rw (one-mul (2 ^ n), ← (add-one n), holds))
+
+  pub bit-less : test (n + 1) ≡ false → vector ≡ bits-where test (n + 1)
+  unfolding bits-where
+  bit-less fails = so-far ∙ rw (add-one n, ← (add-one n), fails) (sym (zero-add (bits-where test n)))

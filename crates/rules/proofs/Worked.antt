@@ -9,7 +9,7 @@ use lib.ListN.{getD, length, replicate, set}
 use Rattle.rules.specs.declared.Settings.{Settings}
 use Rattle.rules.specs.declared.Answer.{Answer}
 use Rattle.rules.specs.Tools.{within, all, any, count, those, lowest}
-use Rattle.rules.specs.Table.{in-range, wrap, prefix, steps, filter-bits, positions, bucket, Memory, counters-size, filter-start, counter-place, counter-places, slots-size, slot-number, prefix-word, mark-word, default-word, occupied, mark-of, hop-of, mark-at, prefix-at, default-mark, holds, free, held, vacant, is-some, stored, refuse, sized, loose, full, hits, passes-15, runs-short, from-1, memory-refusal, route-refusal, add-refusal, withdraw-refusal, change-refusal, Update, update, zeroed, step-each, with-slot, with-default, with-held, added, withdrawn, changed, clear, add, withdraw, change, claims, bits-where, vector-of, match-vector, down-from, bit-set, set-bits, search, default-answer, place-answer, refused, answer-of, lookup, one-if}
+use Rattle.rules.specs.Table.{in-range, wrap, prefix, steps, filter-bits, positions, bucket, Memory, counters-size, filter-start, counter-place, counter-places, slots-size, slot-number, prefix-word, mark-word, default-word, occupied, mark-of, hop-of, mark-at, prefix-at, default-mark, holds, free, held, vacant, is-some, stored, refuse, sized, loose, full, hits, passes-15, runs-short, from-1, memory-refusal, route-refusal, add-refusal, withdraw-refusal, change-refusal, Update, update, zeroed, step-each, with-slot, with-default, with-held, added, withdrawn, changed, clear, add, withdraw, change, claims, bits-where, vector-of, match-vector, down-from, bit-set, set-bits, search, route-answer, default-answer, place-answer, refused, answer-of, lookup, one-if}
 
 -- an address or a prefix by its four octets
 abbrev ip : (a b c d : ℕ) → ℕ
@@ -153,5 +153,5 @@ come-out [] = true
 come-out (c ∷ cs) = same (c .gives) (c .says) && come-out cs
 
 all-come-out : come-out (worked ++ refusals) ≡ true
-unfolding worked refusals same come-out within all any count those lowest in-range wrap prefix steps filter-bits positions bucket counters-size filter-start counter-place counter-places slots-size slot-number prefix-word mark-word default-word occupied mark-of hop-of mark-at prefix-at default-mark holds free held vacant is-some stored refuse sized loose full hits passes-15 runs-short from-1 memory-refusal route-refusal add-refusal withdraw-refusal change-refusal update zeroed step-each with-slot with-default with-held added withdrawn changed clear add withdraw change claims bits-where vector-of match-vector down-from bit-set set-bits search default-answer place-answer refused answer-of lookup one-if
+unfolding worked refusals same come-out within all any count those lowest in-range wrap prefix steps filter-bits positions bucket counters-size filter-start counter-place counter-places slots-size slot-number prefix-word mark-word default-word occupied mark-of hop-of mark-at prefix-at default-mark holds free held vacant is-some stored refuse sized loose full hits passes-15 runs-short from-1 memory-refusal route-refusal add-refusal withdraw-refusal change-refusal update zeroed step-each with-slot with-default with-held added withdrawn changed clear add withdraw change claims bits-where vector-of match-vector down-from bit-set set-bits search route-answer default-answer place-answer refused answer-of lookup one-if
 all-come-out = refl

@@ -324,6 +324,10 @@ search t slots address probes (L ∷ Ls) =
     let p = prefix L address in
     found-or t L p (probes + 1) (held t slots L p) (search t slots address (probes + 1) Ls)
 
+-- what a slot of this mark answers, found at length L after so many probes
+unfoldable pub route-answer : (mark L probes : ℕ) → Answer
+route-answer mark L probes = record { refusal = 0; found = true; hop = hop-of mark; length = L; probes = probes }
+
 -- what the default answers after so many probes; none where its mark is free
 unfoldable pub default-answer : (mark probes : ℕ) → Answer
 default-answer mark probes =
@@ -337,8 +341,7 @@ default-answer mark probes =
 
 -- what a search's place answers: its slot's hop; where there is none the default, after as many probes as the vector has ones
 unfoldable pub place-answer : Settings → (slots : List ℕ) (ones : ℕ) → Place → Answer
-place-answer t slots ones (At n L probes) =
-    record { refusal = 0; found = true; hop = hop-of (mark-at slots n); length = L; probes = probes }
+place-answer t slots ones (At n L probes) = route-answer (mark-at slots n) L probes
 place-answer t slots ones Absent = default-answer (default-mark t slots) ones
 
 -- the answer that carries a refusal

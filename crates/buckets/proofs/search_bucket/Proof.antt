@@ -2,8 +2,7 @@
 use mathlib.Core.Path.{_∙_}
 use borrow.Author.Needs.{needs}
 use Rattle.rules.specs.Table.{search as searched}
-use Rattle.rules.proofs.Vectors.{set-bits-one}
-use Rattle.buckets.proofs.Lengths.{one-bit}
+use Rattle.rules.proofs.Vectors.{one-bit, set-bits-one}
 use Rattle.buckets.proofs.search_bucket.Statement.{statement}
 use Rattle.buckets.proofs.search_bucket.Tie as tie
 

@@ -12,8 +12,8 @@ use Rattle.rules.specs.Table.{mark-word, set-bits, holds, held, search}
 use Rattle.rules.specs.declared.Place.the-variants.{Absent}
 use Rattle.rules.proofs.Lowest.{lowest-on, lowest-here, none-before}
 use Rattle.rules.proofs.Placing.{ranges}
-use Rattle.rules.proofs.Vectors.{set-bits-zero}
-use Rattle.buckets.proofs.Lengths.{Longest, longest, less, search-longest, one-bit}
+use Rattle.rules.proofs.Vectors.{one-bit, set-bits-zero}
+use Rattle.buckets.proofs.Lengths.{Longest, longest, less, search-longest}
 use Rattle.buckets.proofs.Slots.{counted, is-lent, holds-by}
 use Rattle.buckets.proofs.search_buckets.Statement.{statement}
 use Rattle.buckets.proofs.search_buckets.Tie as tie

@@ -1,0 +1,69 @@
+-- Where a search ends: in a slot whose words are lent and whose mark is occupied.
+use Prim.Native.Nat.{ℕ, zero, suc, _+_, _≤_, _<_}
+use mathlib.Core.Path.{_≡_, refl, sym, ap, _∙_}
+use mathlib.Core.Bool.{Bool, true, false, cond}
+use mathlib.Core.List.{List, [], _∷_}
+use mathlib.Core.Option.{Option, some, none}
+use native.Mathlib.Omega.{arith}
+use lib.ListN.{length}
+use Rattle.rules.specs.declared.Settings.{Settings}
+use Rattle.rules.specs.declared.Place.the-variants.{At, Absent}
+use Rattle.rules.specs.Tools.{those}
+use Rattle.rules.specs.Table.{in-range, prefix, slot-number, mark-word, mark-at, occupied, holds, free, held, vacant, found-or, down-from, bit-set, set-bits, search as searched}
+use Rattle.rules.specs.Ready.{Ready, Slots}
+use Rattle.rules.proofs.Members.{both}
+use Rattle.rules.proofs.Lowest.{some-lowest}
+use Rattle.rules.proofs.Placing.{words-fit, default-fits}
+
+-- a slot by its number: its words are lent, and its mark is occupied
+pub record Ended (slots : List ℕ) (slot : ℕ) : Type 0 where
+  pub is-lent : mark-word slot < length slots
+  pub taken : occupied (mark-at slots slot) ≡ true
+
+module _ (t : Settings) (slots : List ℕ) (sized : Slots t slots) where
+  slot-lent : (L p s : ℕ) → Ready t L → s < t .s → mark-word (slot-number t L p s) < length slots
+  slot-lent L p s ready h = rw (sized .size) (omega (arith, words-fit t L p s ready h .mark, default-fits t))
+
+  pub vacant-lent : (L p s : ℕ) → Ready t L → vacant t slots L p ≡ some s → mark-word (slot-number t L p s) < length slots
+  unfolding vacant
+  vacant-lent L p s ready e = slot-lent L p s ready (some-lowest (free t slots L p) (t .s) s e .within)
+
+  pub held-ended : (L p s : ℕ) → Ready t L → held t slots L p ≡ some s → Ended slots (slot-number t L p s)
+  unfolding held holds
+  held-ended L p s ready e =
+      let low = some-lowest (holds t slots L p) (t .s) s e in
+      record { is-lent = slot-lent L p s ready (low .within); taken = both _ _ (low .passes) .0 }
+
+  -- lengths that have buckets
+  pub data Lengths : List ℕ → Type 0 where
+    none-left : Lengths []
+    one-more : {L : ℕ} {Ls : List ℕ} → Ready t L → Lengths Ls → Lengths (L ∷ Ls)
+
+  pub search-ended : (address probes slot M n : ℕ) {Ls : List ℕ} → Lengths Ls → searched t slots address probes Ls ≡ At slot M n
+      → Ended slots slot
+  unfolding searched
+  search-ended address probes slot M n none-left e = absurd (let z : _≡_ {A = ℕ} 0 1 = cc in omega arith)
+  search-ended address probes slot M n (one-more {L} {Ls} ready rest) e =
+      go (held t slots L (prefix L address)) refl (search-ended address (probes + 1) slot M n rest) e
+    where
+      go : (o : Option ℕ) → held t slots L (prefix L address) ≡ o
+          → (searched t slots address (probes + 1) Ls ≡ At slot M n → Ended slots slot)
+          → found-or t L (prefix L address) (probes + 1) o (searched t slots address (probes + 1) Ls) ≡ At slot M n → Ended slots slot
+      go (some s) h later found =
+          let number : slot-number t L (prefix L address) s ≡ slot = cc in
+          rw number at (held-ended L (prefix L address) s ready h)
+      go none h later found = later found
+
+  -- the set bits of a vector are such lengths
+  those-lengths : (test : ℕ → Bool) (n : ℕ) → in-range t ≡ true → n ≤ 32 → Lengths (those test (down-from n))
+  unfolding those down-from
+  those-lengths test zero range h = none-left
+  those-lengths test (suc n) range h = go (test (suc n)) (those-lengths test n range (omega arith))
+    where
+      go : (b : Bool) → Lengths (those test (down-from n)) → Lengths (cond b (suc n ∷ those test (down-from n)) (those test (down-from n)))
+      go true rest = one-more {L = suc n} (record { range = range; low = omega arith; high = h }) rest
+      go false rest = rest
+
+  pub set-lengths : (v : ℕ) → in-range t ≡ true → Lengths (set-bits v)
+  unfolding set-bits
+  set-lengths v range = those-lengths (bit-set v) 32 range (omega arith)

@@ -1,0 +1,3 @@
+-- The laws that the loops share.
+pub mod Places
+pub mod Visits

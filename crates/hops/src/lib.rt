@@ -1,0 +1,55 @@
+// What a mark answers to a lookup.
+ghost use mathlib.Core.Path.{_≡_};
+ghost use Prim.Native.Nat.{_≤_};
+ghost use Rattle.rules.specs.Table.{route-answer, default-answer, refused};
+use buckets::is_occupied;
+use rules::Answer;
+
+// The route in a slot of this mark, found at this length.
+pub fn answer_route(mark: u32, length: u32, probes: u32) -> Answer
+    requires { ⌜ 1 ≤ mark ⌝ }
+    ensures { λ r. ⌜ r ≡ route-answer mark length probes ⌝ }
+{
+    Answer {
+        refusal: 0,
+        found: true,
+        hop: mark - 1,
+        length: length,
+        probes: probes,
+    }
+}
+
+// The default route of this mark, or none where the mark is free.
+pub fn answer_default(mark: u32, probes: u32) -> Answer
+    ensures { λ r. ⌜ r ≡ default-answer mark probes ⌝ }
+{
+    if is_occupied(mark) {
+        return Answer {
+            refusal: 0,
+            found: true,
+            hop: mark - 1,
+            length: 0,
+            probes: probes,
+        };
+    }
+    Answer {
+        refusal: 0,
+        found: false,
+        hop: 0,
+        length: 0,
+        probes: probes,
+    }
+}
+
+// A refusal, with zero elsewhere.
+pub fn answer_refused(refusal: u32) -> Answer
+    ensures { λ r. ⌜ r ≡ refused refusal ⌝ }
+{
+    Answer {
+        refusal: refusal,
+        found: false,
+        hop: 0,
+        length: 0,
+        probes: 0,
+    }
+}

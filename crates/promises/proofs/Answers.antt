@@ -1,0 +1,161 @@
+-- What a kept table answers, in the words of the demands.
+use Prim.Native.Nat.{ℕ, zero, suc, _^_, _≤_, _<_}
+use mathlib.Core.Path.{_≡_, refl, sym, _∙_}
+use mathlib.Core.Bool.{Bool, true, false, cond, not, _&&_, true≢false, false≢true}
+use mathlib.Core.List.{List, [], _∷_}
+use mathlib.Core.Option.{Option, some, none}
+use mathlib.Core.Logic.{_≢_}
+use native.Mathlib.Nat.{le-refl}
+use native.Mathlib.Omega.{arith}
+use lib.ListN.{length}
+use lib.Dec.{eqb, ltb, leb, lit≤}
+use borrow.Author.Tests.{eq-eqb, lt-ltb, not-false}
+use Rattle.rules.specs.declared.Settings.{Settings}
+use Rattle.rules.specs.Tools.{all, those}
+use Rattle.rules.specs.Table.{bucket, in-range, prefix, positions, Memory, update, loose, refuse, from-1, add, withdraw, lookup, down-from}
+use Rattle.rules.proofs.Members.{both}
+use Rattle.rules.proofs.Refusals.{passed}
+use Rattle.rules.proofs.Placing.{ranges, positions-length}
+use Rattle.promises.specs.History.{Route, Call, Clear, Add, Withdraw, Change, word-sized, act, written, noted, next, about, without}
+use Rattle.promises.specs.Demands.{Finds, number, beside, number-given, Stored, sum, exists, matches, crowded, overflows, add-number, withdraw-number, change-number, Longest, NoMatch, marks, covered, probes-down-to, in-use, lengths-in-use}
+use Rattle.promises.proofs.Sums.{exists-there, exists-one}
+use Rattle.promises.proofs.Paper.{route, worth, stored-route, paper-withdrawn}
+use Rattle.promises.proofs.Kept.{Kept}
+use Rattle.promises.proofs.Refusals.{from-1-never, add-by-routes, withdraw-by-routes, number-by-routes}
+use Rattle.promises.proofs.Updates.{checked}
+use Rattle.promises.proofs.Histories.{kept-next}
+use Rattle.promises.proofs.Anew.{Parted, vacancy, next-accepted}
+use Rattle.promises.proofs.Matches.{longest, answer-by, Right, right}
+use Rattle.promises.proofs.Lookups.{lookup-finds, lookup-by-routes, default-prefix}
+
+-- ---- Probes
+
+-- a test that implies another holds no more often
+those-fewer : (test other : ℕ → Bool) (n : ℕ) → ((L : ℕ) → test L ≡ true → other L ≡ true) → length (those test (down-from n)) ≤ length (those other (down-from n))
+unfolding those down-from
+those-fewer test other zero implied = le-refl 0
+those-fewer test other (suc n) implied = go (test (suc n)) (other (suc n)) (implied (suc n)) (those-fewer test other n implied)
+  where
+    go : (b c : Bool) → (b ≡ true → c ≡ true) → length (those test (down-from n)) ≤ length (those other (down-from n))
+        → length (cond b (suc n ∷ those test (down-from n)) (those test (down-from n))) ≤ length (cond c (suc n ∷ those other (down-from n)) (those other (down-from n)))
+    go true true h fewer = omega arith
+    go true false h fewer = absurd (false≢true (h refl))
+    go false true h fewer = omega arith
+    go false false h fewer = fewer
+
+-- what holds at all of some numbers holds at one of them
+one-of-all : (test : ℕ → Bool) (xs : List ℕ) → 1 ≤ length xs → all test xs ≡ true → (x : ℕ) × (test x ≡ true)
+unfolding all
+one-of-all test [] some-there h = absurd (omega arith)
+one-of-all test (x ∷ xs) some-there h = (x, both (test x) (all test xs) h .0)
+
+-- a length that is covered is in use
+covered-in-use : (t : Settings) (routes : List Route) (address L : ℕ) → in-range t ≡ true → covered t routes address L ≡ true → in-use routes L ≡ true
+unfolding covered in-use marks
+covered-in-use t routes address L range h =
+    let j = one-of-all (λ j. exists (marks t L j) routes) (positions t L (prefix L address)) (omega (arith, positions-length t L (prefix L address), ranges t range)) h in
+    let r = exists-one (marks t L (j .0)) routes (j .1) in
+    exists-there (λ r. eqb (r .length) L) (r .1) (both (eqb (r .0 .length) L) _ (r .2) .0)
+
+module _ {t : Settings} {routes : List Route} {m : Memory} (kept : Kept t routes m) (address : ℕ) (word : address < 2 ^ 32) where
+  pub finds : (r : Route) → Longest address routes r → Finds (lookup t m address) r
+  unfolding answer-by
+  finds r best = rw (lookup-finds kept address word r best) (record { refusal = refl; found = refl; hop = refl; length = refl })
+
+  -- the default matches every address
+  pub default-longest : (r : Route) → Stored r routes → r .length ≡ 0 → ((q : Route) → Stored q routes → matches address q ≡ true → q .length ≡ 0)
+      → Longest address routes r
+  unfolding matches
+  default-longest r stored default no-other = record {
+    stored = stored;
+    matching = eq-eqb _ _ (default-prefix kept address word r stored default);
+    longest = λ q there matching. omega (arith, no-other q there matching);
+  }
+
+  pub finds-none : lookup t m address .found ≡ false → NoMatch address routes
+  unfolding answer-by
+  finds-none h = go (longest address routes) (right address routes)
+    where
+      go : (o : Option Route) → Right address routes o → NoMatch address routes
+      go none no-match = no-match
+      go (some r) best = absurd (true≢false (rw (lookup-finds kept address word r best) at h))
+
+  pub probes : lookup t m address .probes ≡ probes-down-to t routes address (lookup t m address .length)
+  unfolding answer-by
+  probes = rw (lookup-by-routes kept address word) (go (longest address routes))
+    where
+      go : (o : Option Route) → answer-by t routes address o .probes ≡ probes-down-to t routes address (answer-by t routes address o .length)
+      go none = refl
+      go (some r) = refl
+
+  pub probes-few : lookup t m address .probes ≤ lengths-in-use routes
+  unfolding probes-down-to lengths-in-use
+  probes-few = rw probes (those-fewer (λ n. leb (lookup t m address .length) n && covered t routes address n) (in-use routes) 32
+      (λ L h. covered-in-use t routes address L (kept .range) (both (leb (lookup t m address .length) L) _ h .1)))
+
+-- ---- Numbers given back
+
+-- a number that neither a check nor what comes after it gives is not given
+not-this : (k : ℕ) (bad : Bool) (number after : ℕ) → number ≢ k → after ≢ k → refuse bad number after ≢ k
+unfolding refuse
+not-this k true number after here later = here
+not-this k false number after here later = later
+
+not-before-5 : (k p L after : ℕ) → 5 ≤ k → after ≢ k → refuse (ltb 32 L) 3 (refuse (loose L p) 4 after) ≢ k
+not-before-5 k p L after high later = not-this k (ltb 32 L) 3 _ (omega arith) (not-this k (loose L p) 4 after (omega arith) later)
+
+module _ {t : Settings} {routes : List Route} {m : Memory} (kept : Kept t routes m) where
+  pub never-10 : (call : Call) → word-sized call ≡ true → act t call m .refusal ≢ 10
+  unfolding number-given add-number withdraw-number change-number
+  never-10 call sized = rw (number-by-routes kept call sized) (go call)
+    where
+      stored-only : (p L : ℕ) → refuse (not (exists (about p L) routes)) 7 0 ≢ 10
+      stored-only p L = not-this 10 (not (exists (about p L) routes)) 7 0 (omega arith) (omega arith)
+
+      go : (call : Call) → number-given t routes call ≢ 10
+      go Clear = omega arith
+      go (Add p L hop) =
+          not-before-5 10 p L _ (lit≤ tt)
+          (not-this 10 (ltb 65535 hop) 5 _ (omega arith)
+          (not-this 10 (exists (about p L) routes) 6 _ (omega arith)
+          (not-this 10 (from-1 L (crowded t routes L p)) 8 _ (omega arith) (not-this 10 (from-1 L (overflows t routes L p)) 9 0 (omega arith) (omega arith)))))
+      go (Withdraw p L) = not-before-5 10 p L _ (lit≤ tt) (stored-only p L)
+      go (Change p L hop) = not-before-5 10 p L _ (lit≤ tt) (not-this 10 (ltb 65535 hop) 5 _ (omega arith) (stored-only p L))
+
+  -- what an accepted withdrawal leaves
+  withdrawn-kept : (p L : ℕ) → p < 2 ^ 32 → withdraw t m p L .refusal ≡ 0 → Kept t (without p L routes) (withdraw t m p L .memory)
+  unfolding next act noted written word-sized
+  withdrawn-kept p L word e = rw e at (kept-next {s = record { memory = m; routes = routes }} kept (Withdraw p L) (lt-ltb p (2 ^ 32) word))
+
+  -- an accepted withdrawal takes one stored route away
+  record Freed (p L : ℕ) : Type 0 where
+    hop : ℕ
+    parted : Parted (without p L routes) (route p L hop ∷ []) routes
+
+  withdrawal : (p L : ℕ) → p < 2 ^ 32 → withdraw t m p L .refusal ≡ 0 → Freed p L
+  unfolding withdraw update withdraw-number sum worth
+  withdrawal p L word e =
+      let four = checked p L _ (sym (withdraw-by-routes kept p L word) ∙ e) in
+      let old = stored-route p L routes (not-false _ (passed (not (exists (about p L) routes)) 6 0 (four .1) .0)) in
+      record {
+        hop = old .0;
+        parted = λ weight. omega (arith, paper-withdrawn p L (old .0) (old .1) (kept .once p L) weight);
+      }
+
+  pub freed : (p L hop : ℕ) → p < 2 ^ 32 → hop ≤ 65535 → withdraw t m p L .refusal ≡ 0 → add t (withdraw t m p L .memory) p L hop .refusal ≡ 0
+  unfolding add update
+  freed p L hop word high e =
+      let free = withdrawal p L word e in
+      add-by-routes (withdrawn-kept p L word e) p L hop word ∙ next-accepted kept (without p L routes) [] (route p L (free .hop)) (free .parted) hop high
+
+  pub freed-place : (p L q hop : ℕ) → p < 2 ^ 32 → q < 2 ^ 32 → bucket t q ≡ bucket t p → withdraw t m p L .refusal ≡ 0
+      → add t (withdraw t m p L .memory) q L hop .refusal ≢ 8
+  unfolding add update add-number crowded number beside refuse
+  freed-place p L q hop word word-q same e =
+      let free = withdrawal p L word e in
+      let empty = from-1-never L (crowded t (without p L routes) L q) (λ low. rw same (vacancy kept (without p L routes) [] (route p L (free .hop)) (free .parted) low)) in
+      rw (add-by-routes (withdrawn-kept p L word e) q L hop word-q, empty)
+      (not-before-5 8 q L _ (lit≤ tt)
+      (not-this 8 (ltb 65535 hop) 5 _ (omega arith)
+      (not-this 8 (exists (about q L) (without p L routes)) 6 _ (omega arith)
+      (not-this 8 (from-1 L (overflows t (without p L routes) L q)) 9 0 (omega arith) (omega arith)))))

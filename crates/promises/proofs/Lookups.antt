@@ -1,0 +1,227 @@
+-- A lookup goes down the lengths that stored routes cover and stops at the longest match: that one is held and
+-- covered, and nothing above it is held.
+use Prim.Native.Nat.{ℕ, zero, suc, _+_, _^_, _≤_, _<_}
+use mathlib.Core.Path.{_≡_, refl, sym, ap, _∙_}
+use mathlib.Core.Bool.{Bool, true, false, cond, _&&_, true≢false}
+use mathlib.Core.List.{List, [], _∷_, List·Memᴰ}
+use mathlib.Core.Option.{Option, some, none}
+use mathlib.Core.Logic.{_⊎_, inl, inr}
+use native.Mathlib.Nat.{zero-add, le-suc-iff, le-refl, le-step}
+use native.Mathlib.Omega.{arith}
+use lib.ListN.{length}
+use lib.Dec.{eqb, leb, leb·zero}
+use borrow.Author.Tests.{eqb-true, eq-eqb, le-leb, lt-leb}
+use Rattle.rules.specs.declared.Settings.{Settings}
+use Rattle.rules.specs.declared.Place.the-variants.{At, Absent}
+use Rattle.rules.specs.declared.Answer.{Answer}
+use Rattle.rules.specs.Tools.{those}
+use Rattle.rules.specs.Table.{prefix, positions, Memory, slot-number, occupied, mark-of, hop-of, mark-at, default-mark, held, claims, bits-where, vector-of, match-vector, down-from, search, route-answer, default-answer, place-answer, answer-of, lookup}
+use Rattle.rules.specs.Ready.{Ready}
+use Rattle.rules.proofs.Members.{all-made, any-made}
+use Rattle.rules.proofs.Prefixes.{prefix-zero}
+use Rattle.rules.proofs.Vectors.{those-agree, set-bits-where}
+use Rattle.promises.specs.History.{Route, about}
+use Rattle.promises.specs.Demands.{exists, matches, Longest, NoMatch, marks, covered, probes-down-to}
+use Rattle.promises.proofs.Sums.{by-cases, exists-there, only-one}
+use Rattle.promises.proofs.Buckets.{held-stored, stored-held, default-stored, default-free}
+use Rattle.promises.proofs.Counters.{claims-covered}
+use Rattle.promises.proofs.Kept.{Kept, fits, ready}
+use Rattle.promises.proofs.Refusals.{no-memory-refusal}
+use Rattle.promises.proofs.Matches.{longest, answer-by, vector-by, Right, right}
+
+-- ---- Going down the lengths
+
+those-none : (test : ℕ → Bool) (n : ℕ) → ((L : ℕ) → 1 ≤ L → L ≤ n → test L ≡ false) → those test (down-from n) ≡ []
+unfolding those down-from
+those-none test zero never = refl
+those-none test (suc n) never = rw (never (suc n) (omega arith) (le-refl (suc n))) (those-none test n (λ L lo hi. never L lo (le-step hi)))
+
+bits-agree : (test other : ℕ → Bool) (n : ℕ) → ((L : ℕ) → 1 ≤ L → L ≤ n → test L ≡ other L) → bits-where test n ≡ bits-where other n
+unfolding bits-where
+bits-agree test other zero same = refl
+bits-agree test other (suc n) same = rw (same (suc n) (omega arith) (le-refl (suc n)), bits-agree test other n (λ L lo hi. same L lo (le-step hi)))
+
+module _ (t : Settings) (slots : List ℕ) (address : ℕ) (claimed : ℕ → Bool) where
+  -- the bucket of the address at length L holds nothing of it
+  abbrev Misses : ℕ → Type 0
+  Misses L = held t slots L (prefix L address) ≡ none
+
+  -- where no length holds it, the search finds nothing
+  search-misses : (n k : ℕ) → ((L : ℕ) → 1 ≤ L → L ≤ n → Misses L) → search t slots address k (those claimed (down-from n)) ≡ Absent
+  unfolding search those down-from
+  search-misses zero k none-held = refl
+  search-misses (suc n) k none-held = go (claimed (suc n)) (λ j. search-misses n j (λ L lo hi. none-held L lo (le-step hi)))
+    where
+      go : (b : Bool) → ((j : ℕ) → search t slots address j (those claimed (down-from n)) ≡ Absent)
+          → search t slots address k (cond b (suc n ∷ those claimed (down-from n)) (those claimed (down-from n))) ≡ Absent
+      go true rest = rw (none-held (suc n) (omega arith) (le-refl (suc n))) (rest (k + 1))
+      go false rest = rest k
+
+  -- where the longest that is held is claimed, the search stops there
+  search-hits : (n k L s : ℕ) → 1 ≤ L → L ≤ n → held t slots L (prefix L address) ≡ some s → claimed L ≡ true
+      → ((M : ℕ) → L < M → M ≤ n → Misses M)
+      → search t slots address k (those claimed (down-from n))
+      ≡ At (slot-number t L (prefix L address) s) L (k + length (those (λ M. leb L M && claimed M) (down-from n)))
+  unfolding search those down-from
+  search-hits zero k L s lo hi holds claims above = absurd (omega arith)
+  search-hits (suc n) k L s lo hi holds claims above = go (le-suc-iff .0 hi) (λ j l. search-hits n j L s lo l holds claims (λ M a b. above M a (le-step b)))
+    where
+      tail : ℕ
+      tail = length (those (λ M. leb L M && claimed M) (down-from n))
+
+      deeper : (b : Bool) → claimed (suc n) ≡ b → L ≤ n
+          → ((j : ℕ) → search t slots address j (those claimed (down-from n)) ≡ At (slot-number t L (prefix L address) s) L (j + tail))
+          → search t slots address k (cond b (suc n ∷ those claimed (down-from n)) (those claimed (down-from n)))
+          ≡ At (slot-number t L (prefix L address) s) L (k + length (cond (leb L (suc n) && b) (suc n ∷ those (λ M. leb L M && claimed M) (down-from n)) (those (λ M. leb L M && claimed M) (down-from n))))
+      deeper true e l rest =
+          rw (above (suc n) (omega arith) (le-refl (suc n)), le-leb L (suc n) hi) (rest (k + 1) ∙ ap (At (slot-number t L (prefix L address) s) L) (omega arith))
+      deeper false e l rest = rw (le-leb L (suc n) hi) (rest k)
+
+      go : (L ≤ n) ⊎ (L ≡ suc n)
+          → ((j : ℕ) → L ≤ n → search t slots address j (those claimed (down-from n)) ≡ At (slot-number t L (prefix L address) s) L (j + tail))
+          → search t slots address k (cond (claimed (suc n)) (suc n ∷ those claimed (down-from n)) (those claimed (down-from n)))
+          ≡ At (slot-number t L (prefix L address) s) L (k + length (cond (leb L (suc n) && claimed (suc n)) (suc n ∷ those (λ M. leb L M && claimed M) (down-from n)) (those (λ M. leb L M && claimed M) (down-from n))))
+      go (inl l) rest = deeper (claimed (suc n)) refl l (λ j. rest j l)
+      go (inr e) rest =
+          let none-after = those-none (λ M. leb L M && claimed M) n (λ M low high. rw (lt-leb L M (omega arith))) in
+          let own : claimed (suc n) ≡ true = rw (← e) claims in
+          rw (own, le-leb L (suc n) hi, none-after, rw e at holds) (rw e)
+
+-- ---- The answer
+
+hop-marked : (hop : ℕ) → hop-of (mark-of hop) ≡ hop
+unfolding hop-of mark-of
+hop-marked hop = omega arith
+
+module _ {t : Settings} {routes : List Route} {m : Memory} (kept : Kept t routes m) (address : ℕ) (word : address < 2 ^ 32) where
+  abbrev of-length : (L : ℕ) → 1 ≤ L → L ≤ 32 → Ready t L
+  of-length L lo hi = ready (kept .range) lo hi
+
+  -- no two stored routes of one prefix and length differ in their hops
+  same-hop : {r q : Route} → List·Memᴰ r routes → List·Memᴰ q routes → q .prefix ≡ r .prefix → q .length ≡ r .length → q .hop ≡ r .hop
+  unfolding about
+  same-hop {r} {q} r-there q-there same-prefix same-length =
+      let few = kept .once (r .prefix) (r .length) in
+      let own-r = only-one (about (r .prefix) (r .length)) (λ x. x .hop) r-there (rw (eq-eqb (r .prefix) (r .prefix) refl, eq-eqb (r .length) (r .length) refl)) few in
+      let own-q = only-one (about (r .prefix) (r .length)) (λ x. x .hop) q-there (rw (eq-eqb _ _ same-prefix, eq-eqb _ _ same-length)) few in
+      sym own-q ∙ own-r
+
+  -- a route of length 0 matches every address
+  pub default-prefix : (r : Route) → List·Memᴰ r routes → r .length ≡ 0 → prefix (r .length) address ≡ r .prefix
+  default-prefix r there e =
+      let its = fits kept r there in
+      rw e (prefix-zero address word ∙ sym (prefix-zero (r .prefix) (its .word)) ∙ rw e at (its .tight))
+
+  -- what a length holds of the address matches it
+  held-matches : (L s : ℕ) → Ready t L → held t (m .slots) L (prefix L address) ≡ some s
+      → (r : Route) × List·Memᴰ r routes × (r .length ≡ L) × (matches address r ≡ true)
+  unfolding matches
+  held-matches L s of-l h =
+      let at = held-stored (kept .slots) L (prefix L address) s of-l h .1 in
+      let r = at .holder in
+      (r, at .stored, at .its-length, eq-eqb _ _ (ap (λ (n : ℕ). prefix n address) (at .its-length) ∙ sym (at .its-prefix)))
+
+  -- so where each match is at most n long, no length above n holds the address
+  misses : (n : ℕ) → ((r : Route) → List·Memᴰ r routes → matches address r ≡ true → r .length ≤ n)
+      → (L : ℕ) → n < L → L ≤ 32 → held t (m .slots) L (prefix L address) ≡ none
+  misses n short L above high = go (held t (m .slots) L (prefix L address)) refl
+    where
+      go : (o : Option ℕ) → held t (m .slots) L (prefix L address) ≡ o → o ≡ none
+      go none h = refl
+      go (some s) h =
+          let r = held-matches L s (of-length L (omega arith) high) h in
+          let long = r .2 in
+          absurd (omega (arith, short (r .0) (r .1) (r .3)))
+
+  -- a length that has a match is covered
+  match-covered : (r : Route) → List·Memᴰ r routes → matches address r ≡ true → covered t routes address (r .length) ≡ true
+  unfolding covered marks matches
+  match-covered r there h =
+      rw (eqb-true (prefix (r .length) address) (r .prefix) h)
+      (all-made (λ j. exists (marks t (r .length) j) routes) (positions t (r .length) (r .prefix)) (λ j among.
+      exists-there (marks t (r .length) j) there
+      (rw (eq-eqb (r .length) (r .length) refl) (any-made (eqb j) (positions t (r .length) (r .prefix)) j among (eq-eqb j j refl)))))
+
+  -- the lengths that a lookup goes down
+  vector-covered : vector-of t (m .counters) address ≡ bits-where (covered t routes address) 32
+  unfolding vector-of
+  vector-covered = bits-agree (λ L. claims t (m .counters) L (prefix L address)) (covered t routes address) 32
+      (λ L lo hi. claims-covered t routes (m .counters) (kept .counters) L (of-length L lo hi) address)
+
+  -- where the default or nothing answers, the probes go down to 1
+  all-lengths : length (those (covered t routes address) (down-from 32)) ≡ probes-down-to t routes address 0
+  unfolding probes-down-to
+  all-lengths = ap length (those-agree (covered t routes address) (λ n. leb 0 n && covered t routes address n) 32 (λ L lo hi. rw (leb·zero L)))
+
+  -- the answer of the search, by the default's word and by a slot
+  abbrev answer : Answer
+  answer = place-answer t (m .slots) (length (those (covered t routes address) (down-from 32))) (search t (m .slots) address 0 (those (covered t routes address) (down-from 32)))
+
+  by-none : NoMatch address routes → answer ≡ answer-by t routes address none
+  unfolding place-answer answer-by default-answer matches
+  by-none no-match =
+      rw (search-misses t (m .slots) address (covered t routes address) 32 0 (misses 0 (λ r there h. absurd (true≢false (sym h ∙ no-match r there)))), all-lengths)
+      (by-cases (occupied (default-mark t (m .slots)))
+      (λ taken.
+      let r = default-stored (kept .slots) taken in
+      absurd (true≢false (sym (eq-eqb _ _ (default-prefix (r .0) (r .1) (r .2))) ∙ no-match (r .0) (r .1))))
+      (λ free. rw free))
+
+  by-default : (r : Route) → Longest address routes r → r .length ≡ 0 → answer ≡ answer-by t routes address (some r)
+  unfolding place-answer answer-by default-answer
+  by-default r best e =
+      rw (search-misses t (m .slots) address (covered t routes address) 32 0 (misses 0 (λ q there h. rw e at (best .longest q there h))), all-lengths, e)
+      (by-cases (occupied (default-mark t (m .slots)))
+      (λ taken.
+      let q = default-stored (kept .slots) taken in
+      let hop : hop-of (default-mark t (m .slots)) ≡ r .hop =
+      ap hop-of (sym (q .3)) ∙ hop-marked (q .0 .hop)
+      ∙ same-hop (best .stored) (q .1) (sym (default-prefix (q .0) (q .1) (q .2)) ∙ ap (λ (n : ℕ). prefix n address) (q .2 ∙ sym e) ∙ default-prefix r (best .stored) e) (q .2 ∙ sym e) in
+      rw (taken, hop))
+      (λ free. absurd (default-free (kept .slots) free r (best .stored) e)))
+
+  by-slot : (r : Route) → Longest address routes r → 1 ≤ r .length → answer ≡ answer-by t routes address (some r)
+  unfolding place-answer route-answer answer-by probes-down-to matches
+  by-slot r best low = go (held t (m .slots) (r .length) (prefix (r .length) address)) refl
+    where
+      of-l : Ready t (r .length)
+      of-l = of-length (r .length) low (fits kept r (best .stored) .high)
+
+      at-prefix : prefix (r .length) address ≡ r .prefix
+      at-prefix = eqb-true _ _ (best .matching)
+
+      go : (o : Option ℕ) → held t (m .slots) (r .length) (prefix (r .length) address) ≡ o → answer ≡ answer-by t routes address (some r)
+      go none h = absurd (stored-held (kept .slots) r (best .stored) of-l (rw at-prefix at h))
+      go (some s) h =
+          let at = held-stored (kept .slots) (r .length) (prefix (r .length) address) s of-l h .1 in
+          let hop : hop-of (mark-at (m .slots) (slot-number t (r .length) (prefix (r .length) address) s)) ≡ r .hop =
+          ap hop-of (sym (at .its-mark)) ∙ hop-marked (at .holder .hop) ∙ same-hop (best .stored) (at .stored) (at .its-prefix ∙ at-prefix) (at .its-length) in
+          rw (
+            search-hits t (m .slots) address (covered t routes address) 32 0 (r .length) s low (of-l .high) h
+                (match-covered r (best .stored) (best .matching)) (misses (r .length) (best .longest)),
+            hop,
+            zero-add,
+          )
+
+  pub lookup-finds : (r : Route) → Longest address routes r → lookup t m address ≡ answer-by t routes address (some r)
+  unfolding lookup answer-of
+  lookup-finds r best = rw (no-memory-refusal kept 0, vector-covered, set-bits-where (covered t routes address)) (go (r .length) refl)
+    where
+      go : (n : ℕ) → r .length ≡ n → answer ≡ answer-by t routes address (some r)
+      go zero e = by-default r best e
+      go (suc n) e = by-slot r best (omega arith)
+
+  pub lookup-none : NoMatch address routes → lookup t m address ≡ answer-by t routes address none
+  unfolding lookup answer-of
+  lookup-none no-match = rw (no-memory-refusal kept 0, vector-covered, set-bits-where (covered t routes address)) (by-none no-match)
+
+  pub lookup-by-routes : lookup t m address ≡ answer-by t routes address (longest address routes)
+  lookup-by-routes = go (longest address routes) (right address routes)
+    where
+      go : (o : Option Route) → Right address routes o → lookup t m address ≡ answer-by t routes address o
+      go none no-match = lookup-none no-match
+      go (some r) best = lookup-finds r best
+
+  pub vector-by-routes : match-vector t m address ≡ vector-by t routes address
+  unfolding match-vector vector-by
+  vector-by-routes = rw (no-memory-refusal kept 0, vector-covered)

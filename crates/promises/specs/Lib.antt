@@ -1,0 +1,4 @@
+-- Histories of calls, the routes that a reader of the calls and their answers keeps on paper, and
+-- the words of the demands over such routes.
+pub mod History
+pub mod Demands

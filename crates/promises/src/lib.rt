@@ -1,0 +1,2 @@
+// What is promised of the calls over every history. There is no code here: the histories and what
+// is stored by them are defined in specs/, and each demand is a theorem in proofs/Promises.antt.

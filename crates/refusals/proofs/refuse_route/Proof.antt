@@ -1,0 +1,47 @@
+-- Each way out has the checks before it; those of the memory are passed on by `memory-passing`.
+use mathlib.Core.Path.{_∙_, sym}
+use borrow.Author.Needs.{needs}
+use borrow.Author.Tests.{lt-ltb, le-ltb, ne-eqb}
+use Rattle.rules.specs.Table.{route-refusal, refuse, loose}
+use Rattle.rules.proofs.Refusals.{memory-passing, memory-passed, route-fits, stopped, let-by}
+use Rattle.refusals.proofs.refuse_route.Statement.{statement}
+use Rattle.refusals.proofs.refuse_route.Tie as tie
+
+refuse-memory-requires : tie.Need-refuse-memory-requires
+refuse-memory-requires c κs = search needs
+
+returns : tie.Need-returns
+unfolding route-refusal
+returns c = stopped (memory-passing _ _) (c .before .refuse-memory .ensures) (c .if1 .taken) _
+
+returns-2 : tie.Need-returns-2
+unfolding route-refusal refuse
+returns-2 c =
+    let d = c .before in
+    sym (let-by (memory-passing _ _) (d .before .refuse-memory .ensures) (d .if1 .left) _ ∙ simp (lt-ltb _ _ (c .if2 .taken)))
+
+prefix-of-requires : tie.Need-prefix-of-requires
+prefix-of-requires c κs = search needs
+
+returns-3 : tie.Need-returns-3
+unfolding route-refusal refuse loose
+returns-3 c =
+    let d = c .before .before .before in
+    sym
+    (let-by (memory-passing _ _) (d .before .refuse-memory .ensures) (d .if1 .left) _
+    ∙ simp (le-ltb _ _ (c .before .before .if2 .left), ne-eqb _ _ (λ e. c .if3 .taken (c .before .prefix-of .ensures ∙ e))))
+
+returns-4 : tie.Need-returns-4
+returns-4 c =
+    let d = c .before .before .before in
+    sym
+    (route-fits _ _ _ _ _ (record {
+      memory = memory-passed _ _ _ 0 (sym (d .before .refuse-memory .ensures) ∙ d .if1 .left) .0;
+      high = c .before .before .if2 .left;
+      tight = sym (c .before .prefix-of .ensures) ∙ c .if3 .left;
+    }) 0)
+
+pub refuse-route-spec : {M : Type 1} → statement M
+refuse-route-spec =
+    tie.close
+    (tie.spec refuse-memory-requires returns returns-2 prefix-of-requires returns-3 returns-4)

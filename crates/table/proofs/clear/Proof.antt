@@ -1,0 +1,55 @@
+-- The checks are those of the rules, and each list is filled with zeros.
+use mathlib.Core.Path.{_∙_, sym, ap₂}
+use Rattle.rules.specs.Table.{clear, zeroed, left}
+use Rattle.rules.proofs.Refusals.{refused-by, accepted-by}
+use borrow.Author.Needs.{needs}
+use Rattle.table.proofs.clear.Statement.{statement}
+use Rattle.table.proofs.clear.Tie as tie
+
+refuse-memory-requires : tie.Need-refuse-memory-requires
+refuse-memory-requires c κs = search needs
+
+same-length : tie.Need-same-length
+same-length c = search needs
+
+same-length-2 : tie.Need-same-length-2
+same-length-2 c = search needs
+
+returns : tie.Need-returns
+unfolding clear
+returns c = refused-by _ _ _ (c .before .refuse-memory .ensures) (c .if1 .taken)
+
+zero-bytes-requires : tie.Need-zero-bytes-requires
+zero-bytes-requires c κs = search needs
+
+zero-words-requires : tie.Need-zero-words-requires
+zero-words-requires c κs = search needs
+
+same-length-3 : tie.Need-same-length-3
+same-length-3 c = search needs
+
+same-length-4 : tie.Need-same-length-4
+same-length-4 c = search needs
+
+returns-2 : tie.Need-returns-2
+unfolding clear zeroed
+returns-2 c =
+    let words = c .before .before in
+    let bytes = words .before .before .before .before in
+    let checked = bytes .before .before in
+    accepted-by _ _ _ (checked .before .refuse-memory .ensures) (checked .if1 .left)
+    ∙ ap₂ (left 0) (sym (bytes .zero-bytes .ensures)) (sym (words .zero-words .ensures))
+
+pub clear-spec : {M : Type 1} → statement M
+clear-spec =
+    tie.close
+    (tie.spec
+    refuse-memory-requires
+    same-length
+    same-length-2
+    returns
+    zero-bytes-requires
+    zero-words-requires
+    same-length-3
+    same-length-4
+    returns-2)

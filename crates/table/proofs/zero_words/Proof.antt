@@ -1,0 +1,53 @@
+-- The words before i are zero: `Zeroed`.
+use Prim.Native.Nat.{_-_}
+use native.Mathlib.Omega.{arith}
+use lib.ListN.{length}
+use borrow.Author.Needs.{needs}
+use Rattle.table.proofs.Zeros.{Zeroed, zeroed-none, zeroed-more, zeroed-all}
+use Rattle.table.proofs.zero_words.Statement.{statement}
+use Rattle.table.proofs.zero_words.Tie as tie
+
+abbrev Inv-loop : tie.InvT-loop
+Inv-loop words₀ i₀ words i = Zeroed words₀ words i
+
+abbrev μ-loop : tie.MeasureT-loop
+μ-loop words₀ i₀ words i = length words₀ - i
+
+loop-holds : tie.Need-loop-holds Inv-loop μ-loop
+loop-holds c = zeroed-none _
+
+mul-words : tie.Need-mul-words Inv-loop μ-loop
+mul-words c = search needs
+
+slice-write-words : tie.Need-slice-write-words Inv-loop μ-loop
+slice-write-words c = omega arith
+
+add-i : tie.Need-add-i Inv-loop μ-loop
+add-i c = omega arith
+
+loop-less : tie.Need-loop-less Inv-loop μ-loop
+loop-less c = omega arith
+
+loop-again : tie.Need-loop-again Inv-loop μ-loop
+loop-again c = zeroed-more _ _ _ (c .before .loop .inv) (c .loop-test .taken)
+
+same-length : tie.Need-same-length Inv-loop μ-loop
+same-length c = c .before .loop .inv .size
+
+returns : tie.Need-returns Inv-loop μ-loop
+returns c = zeroed-all _ _ _ (c .before .loop .inv) (c .loop-test .left)
+
+pub zero-words-spec : {M : Type 1} → statement M
+zero-words-spec =
+    tie.close
+    (tie.spec
+    Inv-loop
+    μ-loop
+    loop-holds
+    mul-words
+    slice-write-words
+    add-i
+    loop-less
+    loop-again
+    same-length
+    returns)
