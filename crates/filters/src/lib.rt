@@ -10,7 +10,7 @@ use hashes::top_bits;
 use rules::Settings;
 
 // Where the filter of a length begins among the counters.
-pub fn start_of(settings: Settings, length: u32) -> usize
+fn start_of(settings: Settings, length: u32) -> usize
     requires { ⌜ Ready settings length ⌝ }
     ensures { λ r. ⌜ r ≡ filter-start settings length ⌝ }
 {
@@ -54,7 +54,7 @@ pub fn claims_prefix(settings: Settings, counters: &[u8], length: u32, prefix: u
 }
 
 // How many of the K steps of a prefix land on the counter at a place.
-pub fn hits_at(settings: Settings, length: u32, prefix: u32, place: usize) -> u32
+fn hits_at(settings: Settings, length: u32, prefix: u32, place: usize) -> u32
     requires { ⌜ Ready settings length ⌝ }
     ensures { λ r. ⌜ r ≡ hits settings length prefix place ⌝ }
 {

@@ -4,7 +4,7 @@ ghost use Prim.Native.Nat.{_-_, _^_, _≤_};
 ghost use Rattle.rules.specs.Table.{prefix};
 
 // The mask of a length: that many bits set, from the highest down.
-pub fn mask(length: u32) -> u32
+fn mask(length: u32) -> u32
     requires { ⌜ length ≤ 32 ⌝ }
     ensures { λ r. ⌜ r ≡ 2 ^ 32 - 2 ^ (32 - length) ⌝ }
 {

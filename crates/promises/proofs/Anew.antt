@@ -13,7 +13,7 @@ use Rattle.rules.specs.Table.{prefix, positions, bucket, Memory, update, refuse
 use Rattle.rules.specs.Ready.{Ready}
 use Rattle.rules.proofs.Members.{both, any-none}
 use Rattle.rules.proofs.Prefixes.{loose-false}
-use Rattle.promises.specs.History.{Route, Call, Clear, Add, Withdraw, Change, word-sized, all-word-sized, act, written, noted, State, next, after, about}
+use Rattle.promises.specs.History.{Route, Call, Clear, Add, Withdraw, Change, word-sized, all-word-sized, act, written, noted, State, next, after, about, next-by, after-by}
 use Rattle.promises.specs.Demands.{sum, number, exists, beside, crowded, landings, overflows, add-number, adds, refusals}
 use Rattle.promises.proofs.Sums.{by-cases, weight-within, none-exists}
 use Rattle.promises.proofs.Paper.{route, sum-without, sum-with-hop}
@@ -126,12 +126,12 @@ sized r word = lt-ltb (r .prefix) (2 ^ 32) word
 
 noted-down : (t : Settings) (s : State) (r : Route) → act t (Add (r .prefix) (r .length) (r .hop)) (s .memory) .refusal ≡ 0
     → next t s (Add (r .prefix) (r .length) (r .hop)) .routes ≡ r ∷ s .routes
-unfolding next noted written
+unfolding next-by noted written
 noted-down t s r e = rw e
 
 pub anew : {t : Settings} {routes : List Route} {m : Memory} → Kept t routes m → (s : State) (more : List Route) → Kept t (s .routes) (s .memory)
     → Parted (s .routes) more routes → Anew t s more routes
-unfolding refusals adds after all sum
+unfolding refusals adds after-by all sum
 anew kept s [] there parted = record {
   accepted = refl;
   kept = there;
@@ -166,7 +166,7 @@ pub record Alike (t : Settings) (s u : State) (calls : List Call) : Type 0 where
 
 pub alike : {t : Settings} {s u : State} → Same (s .routes) (u .routes) → Kept t (s .routes) (s .memory) → Kept t (u .routes) (u .memory)
     → (calls : List Call) → all-word-sized calls ≡ true → Alike t s u calls
-unfolding refusals after all-word-sized next
+unfolding refusals after-by all-word-sized next-by
 alike same one other [] sized = record { given = refl; same = same }
 alike {t} {s} {u} same one other (call ∷ calls) sized =
     let parts = both (word-sized call) (all-word-sized calls) sized in

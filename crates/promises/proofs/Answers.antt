@@ -12,21 +12,21 @@ use lib.Dec.{eqb, ltb, leb, lit≤}
 use borrow.Author.Tests.{eq-eqb, lt-ltb, not-false}
 use Rattle.rules.specs.declared.Settings.{Settings}
 use Rattle.rules.specs.Tools.{all, those}
-use Rattle.rules.specs.Table.{bucket, in-range, prefix, positions, Memory, update, loose, refuse, from-1, add, withdraw, lookup, down-from}
+use Rattle.rules.specs.Table.{bucket, in-range, prefix, positions, Memory, loose, refuse, from-1, lookup, down-from}
 use Rattle.rules.proofs.Members.{both}
 use Rattle.rules.proofs.Refusals.{passed}
 use Rattle.rules.proofs.Placing.{ranges, positions-length}
-use Rattle.promises.specs.History.{Route, Call, Clear, Add, Withdraw, Change, word-sized, act, written, noted, next, about, without}
-use Rattle.promises.specs.Demands.{Finds, number, beside, number-given, Stored, sum, exists, matches, crowded, overflows, add-number, withdraw-number, change-number, Longest, NoMatch, marks, covered, probes-down-to, in-use, lengths-in-use}
+use Rattle.promises.specs.History.{Route, Call, Clear, Add, Withdraw, Change, word-sized, act, written, noted, next, about, without, next-by}
+use Rattle.promises.specs.Demands.{Finds, SaysNone, number, beside, number-given, Stored, sum, exists, matches, crowded, overflows, add-number, withdraw-number, change-number, Longest, NoMatch, marks, covered, probes-down-to, in-use, lengths-in-use}
 use Rattle.promises.proofs.Sums.{exists-there, exists-one}
 use Rattle.promises.proofs.Paper.{route, worth, stored-route, paper-withdrawn}
 use Rattle.promises.proofs.Kept.{Kept}
-use Rattle.promises.proofs.Refusals.{from-1-never, add-by-routes, withdraw-by-routes, number-by-routes}
+use Rattle.promises.proofs.Refusals.{from-1-never, number-by-routes}
 use Rattle.promises.proofs.Updates.{checked}
 use Rattle.promises.proofs.Histories.{kept-next}
 use Rattle.promises.proofs.Anew.{Parted, vacancy, next-accepted}
 use Rattle.promises.proofs.Matches.{longest, answer-by, Right, right}
-use Rattle.promises.proofs.Lookups.{lookup-finds, lookup-by-routes, default-prefix}
+use Rattle.promises.proofs.Lookups.{lookup-finds, lookup-none, lookup-by-routes, default-prefix}
 
 -- ---- Probes
 
@@ -71,6 +71,10 @@ module _ {t : Settings} {routes : List Route} {m : Memory} (kept : Kept t routes
     matching = eq-eqb _ _ (default-prefix kept address word r stored default);
     longest = λ q there matching. omega (arith, no-other q there matching);
   }
+
+  pub says : NoMatch address routes → SaysNone (lookup t m address)
+  unfolding answer-by
+  says no-match = rw (lookup-none kept address word no-match) (record { refusal = refl; found = refl; hop = refl; length = refl })
 
   pub finds-none : lookup t m address .found ≡ false → NoMatch address routes
   unfolding answer-by
@@ -123,8 +127,8 @@ module _ {t : Settings} {routes : List Route} {m : Memory} (kept : Kept t routes
       go (Change p L hop) = not-before-5 10 p L _ (lit≤ tt) (not-this 10 (ltb 65535 hop) 5 _ (omega arith) (stored-only p L))
 
   -- what an accepted withdrawal leaves
-  withdrawn-kept : (p L : ℕ) → p < 2 ^ 32 → withdraw t m p L .refusal ≡ 0 → Kept t (without p L routes) (withdraw t m p L .memory)
-  unfolding next act noted written word-sized
+  withdrawn-kept : (p L : ℕ) → p < 2 ^ 32 → act t (Withdraw p L) m .refusal ≡ 0 → Kept t (without p L routes) (act t (Withdraw p L) m .memory)
+  unfolding next-by noted written word-sized
   withdrawn-kept p L word e = rw e at (kept-next {s = record { memory = m; routes = routes }} kept (Withdraw p L) (lt-ltb p (2 ^ 32) word))
 
   -- an accepted withdrawal takes one stored route away
@@ -132,29 +136,35 @@ module _ {t : Settings} {routes : List Route} {m : Memory} (kept : Kept t routes
     hop : ℕ
     parted : Parted (without p L routes) (route p L hop ∷ []) routes
 
-  withdrawal : (p L : ℕ) → p < 2 ^ 32 → withdraw t m p L .refusal ≡ 0 → Freed p L
-  unfolding withdraw update withdraw-number sum worth
+  withdrawal : (p L : ℕ) → p < 2 ^ 32 → act t (Withdraw p L) m .refusal ≡ 0 → Freed p L
+  unfolding number-given withdraw-number sum worth word-sized
   withdrawal p L word e =
-      let four = checked p L _ (sym (withdraw-by-routes kept p L word) ∙ e) in
+      let four = checked p L _ (sym (number-by-routes kept (Withdraw p L) (lt-ltb p (2 ^ 32) word)) ∙ e) in
       let old = stored-route p L routes (not-false _ (passed (not (exists (about p L) routes)) 6 0 (four .1) .0)) in
       record {
         hop = old .0;
         parted = λ weight. omega (arith, paper-withdrawn p L (old .0) (old .1) (kept .once p L) weight);
       }
 
-  pub freed : (p L hop : ℕ) → p < 2 ^ 32 → hop ≤ 65535 → withdraw t m p L .refusal ≡ 0 → add t (withdraw t m p L .memory) p L hop .refusal ≡ 0
-  unfolding add update
+  -- the number that an add is given after it
+  add-after : (p L q hop : ℕ) → p < 2 ^ 32 → q < 2 ^ 32 → act t (Withdraw p L) m .refusal ≡ 0
+      → act t (Add q L hop) (act t (Withdraw p L) m .memory) .refusal ≡ add-number t (without p L routes) q L hop
+  unfolding number-given word-sized
+  add-after p L q hop word word-q e = number-by-routes (withdrawn-kept p L word e) (Add q L hop) (lt-ltb q (2 ^ 32) word-q)
+
+  pub freed : (p L hop : ℕ) → p < 2 ^ 32 → hop ≤ 65535 → act t (Withdraw p L) m .refusal ≡ 0
+      → act t (Add p L hop) (act t (Withdraw p L) m .memory) .refusal ≡ 0
   freed p L hop word high e =
       let free = withdrawal p L word e in
-      add-by-routes (withdrawn-kept p L word e) p L hop word ∙ next-accepted kept (without p L routes) [] (route p L (free .hop)) (free .parted) hop high
+      add-after p L p hop word word e ∙ next-accepted kept (without p L routes) [] (route p L (free .hop)) (free .parted) hop high
 
-  pub freed-place : (p L q hop : ℕ) → p < 2 ^ 32 → q < 2 ^ 32 → bucket t q ≡ bucket t p → withdraw t m p L .refusal ≡ 0
-      → add t (withdraw t m p L .memory) q L hop .refusal ≢ 8
-  unfolding add update add-number crowded number beside refuse
+  pub freed-place : (p L q hop : ℕ) → p < 2 ^ 32 → q < 2 ^ 32 → bucket t q ≡ bucket t p → act t (Withdraw p L) m .refusal ≡ 0
+      → act t (Add q L hop) (act t (Withdraw p L) m .memory) .refusal ≢ 8
+  unfolding add-number crowded number beside refuse
   freed-place p L q hop word word-q same e =
       let free = withdrawal p L word e in
       let empty = from-1-never L (crowded t (without p L routes) L q) (λ low. rw same (vacancy kept (without p L routes) [] (route p L (free .hop)) (free .parted) low)) in
-      rw (add-by-routes (withdrawn-kept p L word e) q L hop word-q, empty)
+      rw (add-after p L q hop word word-q e, empty)
       (not-before-5 8 q L _ (lit≤ tt)
       (not-this 8 (ltb 65535 hop) 5 _ (omega arith)
       (not-this 8 (exists (about q L) (without p L routes)) 6 _ (omega arith)

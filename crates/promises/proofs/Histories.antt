@@ -12,7 +12,7 @@ use Rattle.rules.specs.Table.{Memory, slots-size, slot-number, mark-word, defau
 use Rattle.rules.proofs.Members.{both}
 use Rattle.rules.proofs.Refusals.{passed, memory-passed}
 use Rattle.rules.proofs.Placing.{words-fit, default-fits}
-use Rattle.promises.specs.History.{Route, Call, Clear, Add, Withdraw, Change, word-sized, all-word-sized, act, written, noted, State, next, after, history, about}
+use Rattle.promises.specs.History.{Route, Call, Clear, Add, Withdraw, Change, word-sized, all-word-sized, act, written, noted, State, next, after, history, about, next-by, after-by, history-by}
 use Rattle.promises.specs.Demands.{sum, number, exists, landings, withdraw-number, change-number}
 use Rattle.promises.proofs.Sums.{by-cases}
 use Rattle.promises.proofs.Below.{none-below-weighs}
@@ -59,7 +59,7 @@ kept-or refusal later left kept accepted = by-cases (eqb refusal 0)
 
 pub kept-next : {t : Settings} {s : State} → Kept t (s .routes) (s .memory) → (call : Call) → word-sized call ≡ true
     → Kept t (next t s call .routes) (next t s call .memory)
-unfolding next act noted written word-sized clear add withdraw change update withdraw-number change-number
+unfolding next-by act noted written word-sized clear add withdraw change update withdraw-number change-number
 kept-next {t} {s} kept Clear sized = kept-or (memory-refusal t (s .memory) 0) [] (zeroed (s .memory)) kept (cleared t (s .memory))
 kept-next {t} {s} kept (Add p L hop) sized =
     let word = ltb-true p (2 ^ 32) sized in
@@ -81,17 +81,17 @@ kept-next {t} {s} kept (Change p L hop) sized =
 
 pub kept-after : {t : Settings} {s : State} → Kept t (s .routes) (s .memory) → (calls : List Call) → all-word-sized calls ≡ true
     → Kept t (after t s calls .routes) (after t s calls .memory)
-unfolding after all-word-sized
+unfolding after-by all-word-sized
 kept-after kept [] sized = kept
 kept-after kept (call ∷ calls) sized =
     let parts = both (word-sized call) (all-word-sized calls) sized in
     kept-after (kept-next kept call (parts .0)) calls (parts .1)
 
-pub kept-clear : (t : Settings) (before : Memory) → clear t before .refusal ≡ 0 → Kept t [] (clear t before .memory)
-unfolding clear update
+pub kept-clear : (t : Settings) (before : Memory) → act t Clear before .refusal ≡ 0 → Kept t [] (act t Clear before .memory)
+unfolding act clear update
 kept-clear t before accepted = rw accepted (cleared t before accepted)
 
-pub kept-history : (t : Settings) (before : Memory) (calls : List Call) → clear t before .refusal ≡ 0 → all-word-sized calls ≡ true
+pub kept-history : (t : Settings) (before : Memory) (calls : List Call) → act t Clear before .refusal ≡ 0 → all-word-sized calls ≡ true
     → Kept t (history t before calls .routes) (history t before calls .memory)
-unfolding history
+unfolding history-by
 kept-history t before calls accepted sized = kept-after (kept-clear t before accepted) calls sized

@@ -1,6 +1,12 @@
--- The promises, worked histories that meet their premises, and below them what carries them: from
--- sums over routes to slots and counters, to what ties a table to its routes, to histories and answers.
+-- The promises: demands 2 and 3 over every history (Promises), demand 1 (Refused), all of them of what a caller is
+-- given (Calls, and Contracts for the calls' own contracts), the wrong programs that they shut out (Shams), and worked
+-- histories that meet their premises. Below them is what carries them: from sums over routes to slots and counters,
+-- to what ties a table to its routes, to histories and answers.
 pub mod Promises
+pub mod Refused
+pub mod Calls
+pub mod Contracts
+pub mod Shams
 pub mod Premises
 pub mod Answers
 pub mod Anew

@@ -2,7 +2,8 @@
 -- held anything, and then any calls, with any arguments, refused calls included. Prefixes and addresses are numbers
 -- of 32 bits, as every caller's are. What is stored is read off the calls and their answers alone
 -- (specs/History.antt), and the words of the demands are in specs/Demands.antt. One fact carries all of them: every
--- history keeps memory and stored routes together (proofs/Kept.antt).
+-- history keeps memory and stored routes together (proofs/Kept.antt). Demand 1 is in proofs/Refused.antt, and
+-- proofs/Calls.antt says the same of the numbers that a caller of crates/table sees.
 use Prim.Native.Nat.{ℕ, _*_, _^_, _≤_, _<_}
 use mathlib.Core.Path.{_≡_, sym, ap, _∙_}
 use mathlib.Core.Bool.{true, false}
@@ -12,25 +13,25 @@ use native.Mathlib.Nat.{zero-add}
 use lib.Dec.{eqb}
 use Rattle.rules.specs.declared.Settings.{Settings}
 use Rattle.rules.specs.Tools.{all}
-use Rattle.rules.specs.Table.{in-range, bucket, Memory, sized as right-sized, refuse, memory-refusal, update, clear, add, withdraw, lookup, match-vector}
-use Rattle.promises.specs.History.{Route, Call, word-sized, all-word-sized, act, after, history, about}
-use Rattle.promises.specs.Demands.{Stored, sum, number, Reordered, matches, Longest, NoMatch, Finds, number-given, probes-down-to, lengths-in-use, adds, refusals, filter-sum}
+use Rattle.rules.specs.Table.{in-range, bucket, Memory, sized, refuse, memory-refusal, update, clear, bits-where}
+use Rattle.promises.specs.History.{Route, Call, Clear, Add, Withdraw, word-sized, all-word-sized, act, ask, ask-vector, after, history, about, after-by, history-by}
+use Rattle.promises.specs.Demands.{Stored, sum, number, Reordered, matches, Longest, NoMatch, Finds, SaysNone, number-given, covered, probes-down-to, lengths-in-use, adds, refusals, filter-sum}
 use Rattle.promises.proofs.Sums.{sum-reordered}
 use Rattle.promises.proofs.Counters.{filter-sum-kept}
 use Rattle.promises.proofs.Kept.{Kept, ready}
 use Rattle.promises.proofs.Refusals.{number-by-routes}
 use Rattle.promises.proofs.Histories.{kept-history, kept-clear, kept-after}
-use Rattle.promises.proofs.Matches.{answer-by}
-use Rattle.promises.proofs.Lookups.{lookup-none, lookup-by-routes, vector-by-routes}
+use Rattle.promises.proofs.Matches.{vector-by}
+use Rattle.promises.proofs.Lookups.{lookup-by-routes, vector-by-routes}
 use Rattle.promises.proofs.Anew.{Anew, anew, kept-same, Alike, alike}
-use Rattle.promises.proofs.Answers.{finds, default-longest, finds-none, probes, probes-few, never-10, freed, freed-place}
+use Rattle.promises.proofs.Answers.{finds, default-longest, says, finds-none, probes, probes-few, never-10, freed, freed-place}
 
 -- A history can always begin: under settings in range, over lists of their sizes, a clear is accepted.
-pub clear-accepted : (t : Settings) (before : Memory) → in-range t ≡ true → right-sized t before ≡ true → clear t before .refusal ≡ 0
-unfolding clear update memory-refusal refuse
+pub clear-accepted : (t : Settings) (before : Memory) → in-range t ≡ true → sized t before ≡ true → act t Clear before .refusal ≡ 0
+unfolding act clear update memory-refusal refuse
 clear-accepted t before range sizes = rw (range, sizes)
 
-module _ (t : Settings) (before : Memory) (calls : List Call) (cleared : clear t before .refusal ≡ 0) (sized : all-word-sized calls ≡ true) where
+module _ (t : Settings) (before : Memory) (calls : List Call) (cleared : act t Clear before .refusal ≡ 0) (words : all-word-sized calls ≡ true) where
   -- the lent memory after the history, and the routes then stored
   abbrev m : Memory
   m = history t before calls .memory
@@ -39,23 +40,33 @@ module _ (t : Settings) (before : Memory) (calls : List Call) (cleared : clear t
   routes = history t before calls .routes
 
   kept : Kept t routes m
-  kept = kept-history t before calls cleared sized
+  kept = kept-history t before calls cleared words
 
   -- ---- Demand 2
 
   -- A lookup gives the next hop and length of the longest stored route that matches.
-  pub finds-longest : (address : ℕ) → address < 2 ^ 32 → (r : Route) → Longest address routes r → Finds (lookup t m address) r
-  finds-longest address word r longest = finds kept address word r longest
+  pub finds-longest : (address : ℕ) → address < 2 ^ 32 → (r : Route) → Longest address routes r → Finds (ask t address m) r
+  unfolding ask
+  finds-longest address word r longest =
+      let its = finds kept address word r longest in
+      record { refusal = its .refusal; found = its .found; hop = its .hop; length = its .length }
 
   -- It gives the default, the stored route of length 0, if no other matches.
   pub finds-default : (address : ℕ) → address < 2 ^ 32 → (r : Route) → Stored r routes → r .length ≡ 0
-      → ((q : Route) → Stored q routes → matches address q ≡ true → q .length ≡ 0) → Finds (lookup t m address) r
-  finds-default address word r stored default no-other = finds kept address word r (default-longest kept address word r stored default no-other)
+      → ((q : Route) → Stored q routes → matches address q ≡ true → q .length ≡ 0) → Finds (ask t address m) r
+  finds-default address word r stored default no-other = finds-longest address word r (default-longest kept address word r stored default no-other)
 
   -- It says none exactly if no stored route matches.
-  pub none-exactly : (address : ℕ) → address < 2 ^ 32 → (lookup t m address .found ≡ false) ↔ NoMatch address routes
-  unfolding answer-by
-  none-exactly address word = (finds-none kept address word, λ no-match. ap (λ a. a .found) (lookup-none kept address word no-match))
+  pub none-exactly : (address : ℕ) → address < 2 ^ 32 → (ask t address m .found ≡ false) ↔ NoMatch address routes
+  unfolding ask
+  none-exactly address word = (finds-none kept address word, λ no-match. says kept address word no-match .found)
+
+  -- Then it carries no hop, no length and no refusal.
+  pub says-none : (address : ℕ) → address < 2 ^ 32 → NoMatch address routes → SaysNone (ask t address m)
+  unfolding ask
+  says-none address word no-match =
+      let its = says kept address word no-match in
+      record { refusal = its .refusal; found = its .found; hop = its .hop; length = its .length }
 
   -- Each update is accepted unless one of the listed conditions holds of the stored routes: of those that hold the
   -- first in the list gives its number. A clear is always accepted.
@@ -66,14 +77,14 @@ module _ (t : Settings) (before : Memory) (calls : List Call) (cleared : clear t
   pub never-ten : (call : Call) → word-sized call ≡ true → act t call m .refusal ≢ 10
   never-ten = never-10 kept
 
-  -- A freed place can be used again: what was withdrawn can be added again, with any hop that is valid, and no other
-  -- prefix of its length and bucket is told that the bucket is full.
-  pub freed-again : (p L hop : ℕ) → p < 2 ^ 32 → hop ≤ 65535 → withdraw t m p L .refusal ≡ 0
-      → add t (withdraw t m p L .memory) p L hop .refusal ≡ 0
+  -- A freed place can be used again: what was withdrawn can be added again, with any hop that is valid.
+  pub freed-again : (p L hop : ℕ) → p < 2 ^ 32 → hop ≤ 65535 → act t (Withdraw p L) m .refusal ≡ 0
+      → act t (Add p L hop) (act t (Withdraw p L) m .memory) .refusal ≡ 0
   freed-again = freed kept
 
-  pub freed-for-others : (p L q hop : ℕ) → p < 2 ^ 32 → q < 2 ^ 32 → bucket t q ≡ bucket t p → withdraw t m p L .refusal ≡ 0
-      → add t (withdraw t m p L .memory) q L hop .refusal ≢ 8
+  -- Nor is any other prefix of that length and bucket told that the bucket is full.
+  pub freed-for-others : (p L q hop : ℕ) → p < 2 ^ 32 → q < 2 ^ 32 → bucket t q ≡ bucket t p → act t (Withdraw p L) m .refusal ≡ 0
+      → act t (Add q L hop) (act t (Withdraw p L) m .memory) .refusal ≢ 8
   freed-for-others = freed-place kept
 
   -- ---- Demand 3
@@ -81,18 +92,19 @@ module _ (t : Settings) (before : Memory) (calls : List Call) (cleared : clear t
   -- The probe count is the number of lengths, from 32 down to the answer's own (down to 1 for the default or none),
   -- at which each filter position of the address is a position of some stored route of that length.
   pub probes-counted : (address : ℕ) → address < 2 ^ 32
-      → lookup t m address .probes ≡ probes-down-to t routes address (lookup t m address .length)
+      → ask t address m .probes ≡ probes-down-to t routes address (ask t address m .length)
+  unfolding ask
   probes-counted = probes kept
 
   -- It never exceeds the number of nonzero lengths in use.
-  pub probes-bounded : (address : ℕ) → address < 2 ^ 32 → lookup t m address .probes ≤ lengths-in-use routes
+  pub probes-bounded : (address : ℕ) → address < 2 ^ 32 → ask t address m .probes ≤ lengths-in-use routes
+  unfolding ask
   probes-bounded = probes-few kept
 
-  -- A table newly cleared under these settings accepts the stored routes, each added once, in any order, and then
-  -- gives the same answers and counts.
-  module _ (new : Memory) (new-cleared : clear t new .refusal ≡ 0) (order : List Route) (same : Reordered routes order) where
+  -- A table newly cleared under these settings, over memory that held anything, and the stored routes in any order.
+  module _ (new : Memory) (new-cleared : act t Clear new .refusal ≡ 0) (order : List Route) (same : Reordered routes order) where
     again : Anew t (history t new []) order routes
-    unfolding history after sum
+    unfolding history-by after-by sum
     again = anew kept (history t new []) order (kept-clear t new new-cleared) (λ weight. zero-add (sum weight order) ∙ sym (sum-reordered weight same))
 
     -- the new table's memory with the routes added
@@ -100,39 +112,52 @@ module _ (t : Settings) (before : Memory) (calls : List Call) (cleared : clear t
     new-m = history t new (adds order) .memory
 
     kept-anew : Kept t routes new-m
-    unfolding history after
+    unfolding history-by after-by
     kept-anew = kept-same (again .same) (again .kept)
 
+    -- It accepts them all, each added once.
     pub all-accepted : all (λ n. eqb n 0) (refusals t (history t new []) (adds order)) ≡ true
     all-accepted = again .accepted
 
-    pub same-lookups : (address : ℕ) → address < 2 ^ 32 → lookup t new-m address ≡ lookup t m address
+    -- Then it gives the same answers and counts.
+    pub same-lookups : (address : ℕ) → address < 2 ^ 32 → ask t address new-m ≡ ask t address m
+    unfolding ask
     same-lookups address word = lookup-by-routes kept-anew address word ∙ sym (lookup-by-routes kept address word)
 
-    pub same-vectors : (address : ℕ) → address < 2 ^ 32 → match-vector t new-m address ≡ match-vector t m address
+    -- It gives the same match vectors.
+    pub same-vectors : (address : ℕ) → address < 2 ^ 32 → ask-vector t address new-m ≡ ask-vector t address m
+    unfolding ask-vector
     same-vectors address word = vector-by-routes kept-anew address word ∙ sym (vector-by-routes kept address word)
 
-    -- From then on both tables give the same numbers to whatever calls are made, and the same answers after them.
-    module _ (more : List Call) (more-sized : all-word-sized more ≡ true) where
+    -- So it stays, whatever calls are then made to both.
+    module _ (more : List Call) (more-words : all-word-sized more ≡ true) where
       from-then : Alike t (history t new (adds order)) (history t before calls) more
-      unfolding history after
-      from-then = alike (again .same) (again .kept) kept more more-sized
+      unfolding history-by after-by
+      from-then = alike (again .same) (again .kept) kept more more-words
 
+      -- Each call is given the same number by both.
       pub same-numbers : refusals t (history t new (adds order)) more ≡ refusals t (history t before calls) more
       same-numbers = from-then .given
 
+      -- After them each lookup has the same answer and count.
       pub same-lookups-after : (address : ℕ) → address < 2 ^ 32
-          → lookup t (after t (history t new (adds order)) more .memory) address ≡ lookup t (after t (history t before calls) more .memory) address
-      unfolding history after
+          → ask t address (after t (history t new (adds order)) more .memory) ≡ ask t address (after t (history t before calls) more .memory)
+      unfolding ask history-by after-by
       same-lookups-after address word =
-          lookup-by-routes (kept-same (from-then .same) (kept-after (again .kept) more more-sized)) address word
-          ∙ sym (lookup-by-routes (kept-after kept more more-sized) address word)
+          lookup-by-routes (kept-same (from-then .same) (kept-after (again .kept) more more-words)) address word
+          ∙ sym (lookup-by-routes (kept-after kept more more-words) address word)
 
   -- ---- What the rules say of a history
 
   -- No two stored routes have one prefix and length, so that each is added once.
   pub stored-once : (p L : ℕ) → number (about p L) routes ≤ 1
   stored-once = kept .once
+
+  -- The match vector has bit L − 1 set exactly if each filter position of the address at length L is a position of some
+  -- stored route of that length.
+  pub vector-covered : (address : ℕ) → address < 2 ^ 32 → ask-vector t address m .vector ≡ bits-where (covered t routes address) 32
+  unfolding ask-vector vector-by
+  vector-covered address word = ap (λ v. v .vector) (vector-by-routes kept address word)
 
   -- The counters of a length sum to K times the number of its stored routes.
   pub counters-sum : (L : ℕ) → 1 ≤ L → L ≤ 32 → filter-sum t (m .counters) L ≡ t .k * number (λ r. eqb (r .length) L) routes

@@ -9,7 +9,7 @@ use lib.Dec.{eqb, ltb}
 use borrow.Author.Tests.{eqb-true, eq-eqb, ne-eqb, ltb-false, lt-ltb, le-leb, not-true, not-false}
 use Rattle.rules.specs.declared.Settings.{Settings}
 use Rattle.rules.specs.Tools.{within, count}
-use Rattle.rules.specs.Table.{prefix, positions, Memory, lent, slot-number, mark-of, default-mark, occupied, stored, held, vacant, free, is-some, full, loose, refuse, from-1, with-held, with-default, added, withdrawn, changed}
+use Rattle.rules.specs.Table.{prefix, positions, Memory, lent, slot-number, mark-of, default-mark, occupied, stored, held, vacant, free, is-some, full, loose, refuse, from-1, with-found, with-default, added, withdrawn, changed}
 use Rattle.rules.specs.Ready.{Ready}
 use Rattle.rules.proofs.Members.{any-false}
 use Rattle.rules.proofs.Lowest.{some-lowest}
@@ -143,7 +143,7 @@ module _ {t : Settings} {routes : List Route} {m : Memory} (kept : Kept t routes
   default-stands tight = stored-exists kept 0 p (omega arith) tight word
 
   pub added-keeps : (L hop : ℕ) → Addable t routes p L hop → Kept t (route p L hop ∷ routes) (added t m p L hop)
-  unfolding added with-default with-held worth in-default full vacant free slot-weight
+  unfolding added with-default with-found worth in-default full vacant free slot-weight
   added-keeps zero hop ok = settled p 0 (m .counters) _ none (some hop) kept (paper-added p 0 hop routes)
       (default-step (kept .slots) p (mark-of hop) none (some hop)
       (λ weight. weigh-free weight 0 _ (default-stands (ok .valid .tight) ∙ ok .absent))
@@ -217,7 +217,7 @@ module _ {t : Settings} {routes : List Route} {m : Memory} (kept : Kept t routes
       (λ M j of-m. omega (arith, kept .small M j of-m)) (λ q M. omega (arith, kept .once q M))
 
   pub withdrawn-keeps : (L : ℕ) → Checked p L → exists (about p L) routes ≡ true → Kept t (without p L routes) (withdrawn t m p L)
-  unfolding withdrawn with-default with-held worth in-default
+  unfolding withdrawn with-default with-found worth in-default
   withdrawn-keeps zero valid there =
       let at = in-word (valid .tight) there in
       less 0 (at .hop) _ _ (at .member)
@@ -244,7 +244,7 @@ module _ {t : Settings} {routes : List Route} {m : Memory} (kept : Kept t routes
       (λ M j of-m. omega (arith, kept .small M j of-m)) (λ q M. omega (arith, kept .once q M))
 
   pub changed-keeps : (L hop : ℕ) → Checked p L → hop ≤ 65535 → exists (about p L) routes ≡ true → Kept t (with-hop p L hop routes) (changed t m p L hop)
-  unfolding changed with-default with-held worth in-default
+  unfolding changed with-default with-found worth in-default
   changed-keeps zero hop valid high there =
       let at = in-word (valid .tight) there in
       other-hop 0 (at .hop) hop _ (at .member) valid high

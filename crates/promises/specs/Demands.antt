@@ -8,8 +8,17 @@ use lib.Dec.{ltb, leb, eqb}
 use Rattle.rules.specs.Tools.{all, any, count, those}
 use Rattle.rules.specs.declared.Settings.{Settings}
 use Rattle.rules.specs.declared.Answer.{Answer}
-use Rattle.rules.specs.Table.{prefix, positions, bucket, filter-bits, counter-place, refuse, loose, from-1, down-from}
+use Rattle.rules.specs.Table.{prefix, positions, bucket, filter-bits, Memory, counter-place, refuse, loose, from-1, memory-refusal, add-refusal, withdraw-refusal, change-refusal, down-from}
 use Rattle.promises.specs.History.{Route, Call, Clear, Add, Withdraw, Change, State, about, act, next}
+
+-- ---- Numbers given back, by the lent memory
+
+-- the number of the first condition of the list that the call meets, 0 if it meets none
+unfoldable pub first-condition : Settings → Call → Memory → ℕ
+first-condition t Clear m = memory-refusal t m 0
+first-condition t (Add p L hop) m = add-refusal t m p L hop
+first-condition t (Withdraw p L) m = withdraw-refusal t m p L
+first-condition t (Change p L hop) m = change-refusal t m p L hop
 
 -- ---- Counting routes
 
@@ -60,6 +69,13 @@ pub record Finds (answer : Answer) (r : Route) : Type 0 where
   pub found : answer .found ≡ true
   pub hop : answer .hop ≡ r .hop
   pub length : answer .length ≡ r .length
+
+-- an answer that says none
+pub record SaysNone (answer : Answer) : Type 0 where
+  pub refusal : answer .refusal ≡ 0
+  pub found : answer .found ≡ false
+  pub hop : answer .hop ≡ 0
+  pub length : answer .length ≡ 0
 
 -- ---- Numbers given back, by the stored routes
 

@@ -5,7 +5,9 @@ use mathlib.Core.Bool.{Bool, true, cond, _&&_}
 use mathlib.Core.List.{List, [], _∷_, map}
 use lib.Dec.{ltb, eqb}
 use Rattle.rules.specs.declared.Settings.{Settings}
-use Rattle.rules.specs.Table.{Memory, Update, clear, add, withdraw, change}
+use Rattle.rules.specs.declared.Answer.{Answer}
+use Rattle.rules.specs.declared.Vector.{Vector}
+use Rattle.rules.specs.Table.{Memory, Update, clear, add, withdraw, change, lookup, match-vector}
 
 -- a route as it stands on paper; that of length 0 is the default
 pub record Route : Type 0 where
@@ -39,6 +41,14 @@ act t (Add p L hop) m = add t m p L hop
 act t (Withdraw p L) m = withdraw t m p L
 act t (Change p L hop) m = change t m p L hop
 
+-- what a lookup of an address gives back
+unfoldable pub ask : Settings → (address : ℕ) → Memory → Answer
+ask t address m = lookup t m address
+
+-- what its match vector gives back
+unfoldable pub ask-vector : Settings → (address : ℕ) → Memory → Vector
+ask-vector t address m = match-vector t m address
+
 -- the route is about this prefix of this length
 unfoldable pub about : (p L : ℕ) → Route → Bool
 about p L r = eqb (r .prefix) p && eqb (r .length) L
@@ -68,17 +78,31 @@ pub record State : Type 0 where
   pub memory : Memory
   pub routes : List Route
 
--- after one call more
-unfoldable pub next : Settings → State → Call → State
-next t s call =
-    let u = act t call (s .memory) in
+-- what the calls of a program that write give back and leave
+abbrev pub Acting : Type 0
+Acting = Settings → Call → Memory → Update
+
+-- after one call more to that program
+unfoldable pub next-by : Acting → Settings → State → Call → State
+next-by acting t s call =
+    let u = acting t call (s .memory) in
     record { memory = u .memory; routes = noted call (u .refusal) (s .routes) }
 
 -- after a list of calls, the first one first
-unfoldable pub after : Settings → State → List Call → State
-after t s [] = s
-after t s (call ∷ calls) = after t (next t s call) calls
+unfoldable pub after-by : Acting → Settings → State → List Call → State
+after-by acting t s [] = s
+after-by acting t s (call ∷ calls) = after-by acting t (next-by acting t s call) calls
 
 -- after a clear, which stores nothing, and then the calls, over memory that held anything before
-unfoldable pub history : Settings → (before : Memory) → List Call → State
-history t before calls = after t (record { memory = clear t before .memory; routes = [] }) calls
+unfoldable pub history-by : Acting → Settings → (before : Memory) → List Call → State
+history-by acting t before calls = after-by acting t (record { memory = acting t Clear before .memory; routes = [] }) calls
+
+-- the same of the calls of the rules
+abbrev pub next : Settings → State → Call → State
+next = next-by act
+
+abbrev pub after : Settings → State → List Call → State
+after = after-by act
+
+abbrev pub history : Settings → (before : Memory) → List Call → State
+history = history-by act

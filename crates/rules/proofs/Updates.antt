@@ -7,7 +7,7 @@ use mathlib.Core.Option.{Option, some, none}
 use lib.ListN.{set}
 use borrow.Author.Tests.{eq-eqb, ne-eqb, not-false}
 use Rattle.rules.specs.declared.Settings.{Settings}
-use Rattle.rules.specs.Table.{lent, left, default-word, mark-of, slot-number, held, vacant, is-some, stored, full, with-slot, with-default, with-held, counter-places, step-each, add-refusal, withdraw-refusal, change-refusal, added, withdrawn, changed, add, withdraw, change}
+use Rattle.rules.specs.Table.{lent, left, default-word, mark-of, slot-number, held, vacant, is-some, stored, full, with-slot, with-default, with-found, counter-places, step-each, add-refusal, withdraw-refusal, change-refusal, added, withdrawn, changed, add, withdraw, change}
 use Rattle.rules.proofs.Refusals.{AddFitted, from-one, refused-by, accepted-by}
 
 -- past 6 to 8, a stored prefix is held in its bucket and a new one finds a vacant slot
@@ -28,7 +28,7 @@ module _ (t : Settings) (counters slots : List ℕ) (p L hop : ℕ) {given : ℕ
   pub add-slot : (L ≡ 0 → ⊥) → (s : ℕ) → vacant t slots L p ≡ some s
       → add t (lent counters slots) p L hop
       ≡ left 0 (step-each (λ n. n + 1) counters (counter-places t L p)) (with-slot slots (slot-number t L p s) p (hop + 1))
-  unfolding add added with-held mark-of
+  unfolding add added with-found mark-of
   add-slot up s there = accepted-by _ _ _ e good ∙ rw (ne-eqb L 0 up, there)
 
 module _ (t : Settings) (counters slots : List ℕ) (p L : ℕ) {given : ℕ} (e : given ≡ withdraw-refusal t (lent counters slots) p L) (good : given ≡ 0) where
@@ -39,7 +39,7 @@ module _ (t : Settings) (counters slots : List ℕ) (p L : ℕ) {given : ℕ} (e
   pub withdraw-slot : (L ≡ 0 → ⊥) → (s : ℕ) → held t slots L p ≡ some s
       → withdraw t (lent counters slots) p L
       ≡ left 0 (step-each (λ n. n - 1) counters (counter-places t L p)) (with-slot slots (slot-number t L p s) 0 0)
-  unfolding withdraw withdrawn with-held
+  unfolding withdraw withdrawn with-found
   withdraw-slot up s there = accepted-by _ _ _ e good ∙ rw (ne-eqb L 0 up, there)
 
 module _ (t : Settings) (counters slots : List ℕ) (p L hop : ℕ) {given : ℕ} (e : given ≡ change-refusal t (lent counters slots) p L hop) (good : given ≡ 0) where
@@ -49,5 +49,5 @@ module _ (t : Settings) (counters slots : List ℕ) (p L hop : ℕ) {given : ℕ
 
   pub change-slot : (L ≡ 0 → ⊥) → (s : ℕ) → held t slots L p ≡ some s
       → change t (lent counters slots) p L hop ≡ left 0 counters (with-slot slots (slot-number t L p s) p (hop + 1))
-  unfolding change changed with-held mark-of
+  unfolding change changed with-found mark-of
   change-slot up s there = accepted-by _ _ _ e good ∙ rw (ne-eqb L 0 up, there)

@@ -9,17 +9,17 @@ use lib.ListN.{getD, length, replicate, set}
 use Rattle.rules.specs.declared.Settings.{Settings}
 use Rattle.rules.specs.declared.Answer.{Answer}
 use Rattle.rules.specs.Tools.{within, all, any, count, those, lowest}
-use Rattle.rules.specs.Table.{in-range, wrap, prefix, steps, filter-bits, positions, bucket, Memory, counters-size, filter-start, counter-place, counter-places, slots-size, slot-number, prefix-word, mark-word, default-word, occupied, mark-of, hop-of, mark-at, prefix-at, default-mark, holds, free, held, vacant, is-some, stored, refuse, sized, loose, full, hits, passes-15, runs-short, from-1, memory-refusal, route-refusal, add-refusal, withdraw-refusal, change-refusal, Update, update, zeroed, step-each, with-slot, with-default, with-held, added, withdrawn, changed, clear, add, withdraw, change, claims, bits-where, vector-of, match-vector, down-from, bit-set, set-bits, search, route-answer, default-answer, place-answer, refused, answer-of, lookup, one-if}
+use Rattle.rules.specs.Table.{in-range, wrap, prefix, steps, filter-bits, positions, bucket, Memory, counters-size, filter-start, counter-place, counter-places, slots-size, slot-number, prefix-word, mark-word, default-word, occupied, mark-of, hop-of, mark-at, prefix-at, default-mark, holds, free, held, vacant, is-some, stored, refuse, sized, loose, full, hits, passes-15, runs-short, from-1, memory-refusal, route-refusal, add-refusal, withdraw-refusal, change-refusal, Update, update, zeroed, step-each, with-slot, with-default, with-found, added, withdrawn, changed, clear, add, withdraw, change, claims, bits-where, vector-of, match-vector, down-from, bit-set, set-bits, search, route-answer, default-answer, place-answer, refused, answer-of, lookup, whole-words, words, one-if, answer-number, vector-number, c-lookup, c-match-vector}
 
 -- an address or a prefix by its four octets
-abbrev ip : (a b c d : ℕ) → ℕ
+abbrev pub ip : (a b c d : ℕ) → ℕ
 ip a b c d = a * 2 ^ 24 + b * 2 ^ 16 + c * 2 ^ 8 + d
 
 -- K, D, E, S, A, B, C
 abbrev settings : (k d e s a b c : ℕ) → Settings
 settings k d e s a b c = record { k = k; d = d; e = e; s = s; a = a; b = b; c = c }
 
-abbrev T : Settings
+abbrev pub T : Settings
 T = settings 2 4 1 2 1 2 1
 
 -- settings with all multipliers zero
@@ -48,6 +48,28 @@ eight-gone = withdraw T ten-eight (ip 8 0 0 0) 8 .memory
 
 abbrev nine-again : Update
 nine-again = add T eight-gone (ip 9 0 0 0) 8 6
+
+-- settings with larger multipliers: K 3, D 6, E 3, S 2
+abbrev U : Settings
+U = settings 3 6 3 2 2654435761 2246822519 3266489917
+
+-- 10/8, with two routes of length 16 that share a counter; and one of these withdrawn
+abbrev sharing : Memory
+sharing = add U (add U (add U (empty U) (ip 10 0 0 0) 8 7 .memory) (ip 10 1 0 0) 16 9 .memory) (ip 10 3 0 0) 16 4 .memory
+
+abbrev three-gone : Memory
+three-gone = withdraw U sharing (ip 10 3 0 0) 16 .memory
+
+-- two routes of length 16 that share a counter on which one of them lands twice; and that one withdrawn
+abbrev doubled : Memory
+doubled = add U (add U (empty U) (ip 10 27 0 0) 16 5 .memory) (ip 10 12 0 0) 16 6 .memory
+
+abbrev doubled-gone : Memory
+doubled-gone = withdraw U doubled (ip 10 27 0 0) 16 .memory
+
+-- the counters of length 16 at these positions
+abbrev counters-at : Memory → (positions : List ℕ) → List ℕ
+counters-at m = map (λ j. getD (m .counters) (counter-place U 16 j) 0)
 
 -- n routes of length 32 and hop 1 under settings t: 0.0.0.1 and on
 abbrev hosts : Settings → (n : ℕ) → Memory
@@ -99,9 +121,9 @@ worked =
     -- P8: 10/8 and 8/8 fill a bucket, and 9/8 gets 8; with 8/8 withdrawn 10/8 is still found, and 9/8 goes into slot 1
     ∷ case (add T ten-eight (ip 9 0 0 0) 8 6 .refusal ∷ []) (8 ∷ [])
     ∷ case (figures (lookup T eight-gone (ip 10 2 2 3))) (finds 7 8 1)
-    ∷ case (nine-again .refusal ∷ prefix-at (nine-again .memory .slots) (slot-number T 8 (ip 9 0 0 0) 1) ∷ []) (0 ∷ ip 9 0 0 0 ∷ [])
+    ∷ case (nine-again .refusal ∷ prefix-at (nine-again .memory .slots) (slot-number T 8 (ip 9 0 0 0) 1) ∷ mark-at (nine-again .memory .slots) (slot-number T 8 (ip 9 0 0 0) 1) ∷ []) (0 ∷ ip 9 0 0 0 ∷ 7 ∷ [])
     -- P9: K 5, D 4, E 0, S 4, multipliers 0: three /32 routes bring the counter to 15, and a fourth gets 9
-    ∷ case (length (hosts (Z 5 4) 3 .counters) ∷ getD (hosts (Z 5 4) 3 .counters) (counter-place (Z 5 4) 32 0) 0 ∷ []) (512 ∷ 15 ∷ [])
+    ∷ case (getD (hosts (Z 5 4) 3 .counters) (counter-place (Z 5 4) 32 0) 0 ∷ []) (15 ∷ [])
     ∷ case (add (Z 5 4) (hosts (Z 5 4) 3) 4 32 1 .refusal ∷ []) (9 ∷ [])
     -- P10: K 8, D 4, E 0, multipliers 0: a second /32 gets 9 with S 2, and 8 with S 1
     ∷ case (add (Z 8 2) (hosts (Z 8 2) 1) 2 32 1 .refusal ∷ []) (9 ∷ [])
@@ -140,8 +162,34 @@ refusals =
     ∷ case (figures (lookup T (record { counters = ten .counters; slots = set (ten .slots) (mark-word (slot-number T 8 (ip 10 0 0 0) 0)) 65537 }) (ip 10 2 2 3))) (none-after 1)
     ∷ []
 
+-- what two routes share, and the numbers as they cross to C
+further : List Case
+further =
+    -- W1: 10.1/16 has positions 24, 53 and 17, and 10.3/16 has 21, 23 and 24: with both stored counter 24 is 2, and
+    -- with 10.3/16 withdrawn it is 1
+    case (positions U 16 (ip 10 1 0 0) ++ positions U 16 (ip 10 3 0 0)) (24 ∷ 53 ∷ 17 ∷ 21 ∷ 23 ∷ 24 ∷ [])
+    ∷ case (counters-at sharing (17 ∷ 21 ∷ 23 ∷ 24 ∷ 53 ∷ [])) (1 ∷ 1 ∷ 1 ∷ 2 ∷ 1 ∷ [])
+    ∷ case (counters-at three-gone (17 ∷ 21 ∷ 23 ∷ 24 ∷ 53 ∷ [])) (1 ∷ 0 ∷ 0 ∷ 1 ∷ 1 ∷ [])
+    -- so 10.1.2.3 is found at length 16 as before, and 10.3.2.3 now at length 8
+    ∷ case (figures (lookup U sharing (ip 10 1 2 3)) ++ figures (lookup U three-gone (ip 10 1 2 3))) (finds 9 16 1 ++ finds 9 16 1)
+    ∷ case (figures (lookup U sharing (ip 10 3 2 3)) ++ figures (lookup U three-gone (ip 10 3 2 3))) (finds 4 16 1 ++ finds 7 8 1)
+    -- W2: 28.105/16 has positions 17, 21 and 24, of which neither route has all: a probe while both are stored, none after
+    ∷ case (positions U 16 (ip 28 105 0 0)) (17 ∷ 21 ∷ 24 ∷ [])
+    ∷ case (figures (lookup U sharing (ip 28 105 0 1)) ++ figures (lookup U three-gone (ip 28 105 0 1))) (none-after 1 ++ none-after 0)
+    ∷ case (match-vector U sharing (ip 28 105 0 1) .vector ∷ match-vector U three-gone (ip 28 105 0 1) .vector ∷ []) (32768 ∷ 0 ∷ [])
+    -- W3: 10.27/16 has positions 47, 48 and 48, and 10.12/16 has 39, 48 and 57: counter 48 goes from 3 to 1
+    ∷ case (positions U 16 (ip 10 27 0 0) ++ positions U 16 (ip 10 12 0 0)) (47 ∷ 48 ∷ 48 ∷ 39 ∷ 48 ∷ 57 ∷ [])
+    ∷ case (counters-at doubled (39 ∷ 47 ∷ 48 ∷ 57 ∷ [])) (1 ∷ 1 ∷ 3 ∷ 1 ∷ [])
+    ∷ case (counters-at doubled-gone (39 ∷ 47 ∷ 48 ∷ 57 ∷ [])) (1 ∷ 0 ∷ 1 ∷ 1 ∷ [])
+    -- W4: the answer of P5, the vector of P6, the word of 10.0.0.0 and a refusal, as they cross to C
+    ∷ case (answer-number (lookup T ten-one (ip 10 1 2 3)) ∷ []) (1099512221697 ∷ [])
+    ∷ case (vector-number (match-vector T ten-one (ip 10 2 2 3)) ∷ []) (32896 ∷ [])
+    ∷ case (words (0 ∷ 0 ∷ 0 ∷ 10 ∷ [])) (ip 10 0 0 0 ∷ [])
+    ∷ case (c-lookup T (replicate 512 0) (replicate 1027 0) 0 ∷ c-match-vector T (replicate 512 0) (replicate 1028 0) 0 ∷ []) (562949953421312 ∷ 0 ∷ [])
+    ∷ []
+
 -- two lists of numbers are the same
-same : List ℕ → List ℕ → Bool
+unfoldable pub same : List ℕ → List ℕ → Bool
 same [] [] = true
 same [] (y ∷ ys) = false
 same (x ∷ xs) [] = false
@@ -152,6 +200,11 @@ come-out : List Case → Bool
 come-out [] = true
 come-out (c ∷ cs) = same (c .gives) (c .says) && come-out cs
 
-all-come-out : come-out (worked ++ refusals) ≡ true
-unfolding worked refusals same come-out within all any count those lowest in-range wrap prefix steps filter-bits positions bucket counters-size filter-start counter-place counter-places slots-size slot-number prefix-word mark-word default-word occupied mark-of hop-of mark-at prefix-at default-mark holds free held vacant is-some stored refuse sized loose full hits passes-15 runs-short from-1 memory-refusal route-refusal add-refusal withdraw-refusal change-refusal update zeroed step-each with-slot with-default with-held added withdrawn changed clear add withdraw change claims bits-where vector-of match-vector down-from bit-set set-bits search route-answer default-answer place-answer refused answer-of lookup one-if
+-- to unfold this is to unfold all that the calls compute with
+unfoldable pub computing : ℕ
+unfolding within all any count those lowest in-range wrap prefix steps filter-bits positions bucket counters-size filter-start counter-place counter-places slots-size slot-number prefix-word mark-word default-word occupied mark-of hop-of mark-at prefix-at default-mark holds free held vacant is-some stored refuse sized loose full hits passes-15 runs-short from-1 memory-refusal route-refusal add-refusal withdraw-refusal change-refusal update zeroed step-each with-slot with-default with-found added withdrawn changed clear add withdraw change claims bits-where vector-of match-vector down-from bit-set set-bits search route-answer default-answer place-answer refused answer-of lookup whole-words words one-if answer-number vector-number c-lookup c-match-vector
+computing = 0
+
+all-come-out : come-out (worked ++ refusals ++ further) ≡ true
+unfolding worked refusals further same come-out computing
 all-come-out = refl

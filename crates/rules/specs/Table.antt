@@ -1,5 +1,5 @@
--- The rules of the table, in the order of docs/TABLE.md. Every definition computes, on any numbers
--- and any memory, damaged memory too.
+-- The rules of the table, under the headings of docs/TABLE.md. Every definition computes, on any
+-- numbers and any memory, damaged memory too.
 use Prim.Native.Nat.{ℕ, zero, suc, _+_, _-_, _*_, _/_, _%_, _^_}
 use mathlib.Core.Bool.{Bool, true, false, cond, not, _&&_}
 use mathlib.Core.List.{List, [], _∷_, map, foldl}
@@ -32,7 +32,7 @@ unfoldable pub steps : (many g growth : ℕ) → List ℕ
 steps zero g growth = []
 steps (suc many) g growth = g ∷ steps many (wrap (g + growth)) growth
 
--- how many bits number a counter within the filter of length L: D
+-- how many bits number a counter within the filter of length L: D, at every length
 unfoldable pub filter-bits : Settings → (L : ℕ) → ℕ
 filter-bits t L = t .d
 
@@ -235,10 +235,10 @@ with-slot slots n p mark = set (set slots (prefix-word n) p) (mark-word n) mark
 unfoldable pub with-default : Settings → Memory → (mark : ℕ) → Memory
 with-default t m mark = lent (m .counters) (set (m .slots) (default-word t) mark)
 
--- a slot of p's bucket at length L, if there is one, holds a prefix and a mark
-unfoldable pub with-held : Settings → (slots : List ℕ) (L p : ℕ) → Option ℕ → (q mark : ℕ) → List ℕ
-with-held t slots L p (some s) q mark = with-slot slots (slot-number t L p s) q mark
-with-held t slots L p none q mark = slots
+-- the slot that was found in p's bucket at length L, if one was, holds a prefix and a mark
+unfoldable pub with-found : Settings → (slots : List ℕ) (L p : ℕ) → Option ℕ → (q mark : ℕ) → List ℕ
+with-found t slots L p (some s) q mark = with-slot slots (slot-number t L p s) q mark
+with-found t slots L p none q mark = slots
 
 -- add: the lowest free slot gets prefix and mark, and each of the K positions adds one to its counter
 unfoldable pub added : Settings → Memory → (p L hop : ℕ) → Memory
@@ -246,7 +246,7 @@ added t m p L hop =
     cond (eqb L 0) (with-default t m (mark-of hop))
     (record {
       counters = step-each (λ n. n + 1) (m .counters) (counter-places t L p);
-      slots = with-held t (m .slots) L p (vacant t (m .slots) L p) p (mark-of hop);
+      slots = with-found t (m .slots) L p (vacant t (m .slots) L p) p (mark-of hop);
     })
 
 -- withdraw: the slot that holds p gets two zeros, and each of the K positions takes one from its counter
@@ -255,28 +255,31 @@ withdrawn t m p L =
     cond (eqb L 0) (with-default t m 0)
     (record {
       counters = step-each (λ n. n - 1) (m .counters) (counter-places t L p);
-      slots = with-held t (m .slots) L p (held t (m .slots) L p) 0 0;
+      slots = with-found t (m .slots) L p (held t (m .slots) L p) 0 0;
     })
 
--- change: the slot that holds p gets a new mark, and the counters stay
+-- change: the slot that holds p gets a new mark beside the p that it has, and the counters stay
 unfoldable pub changed : Settings → Memory → (p L hop : ℕ) → Memory
 changed t m p L hop =
     cond (eqb L 0) (with-default t m (mark-of hop))
     (record {
       counters = m .counters;
-      slots = with-held t (m .slots) L p (held t (m .slots) L p) p (mark-of hop);
+      slots = with-found t (m .slots) L p (held t (m .slots) L p) p (mark-of hop);
     })
 
--- the four calls that write
+-- clear, as it is given back and as it leaves the memory
 unfoldable pub clear : Settings → Memory → Update
 clear t m = update (memory-refusal t m 0) (zeroed m) m
 
+-- and so add
 unfoldable pub add : Settings → Memory → (p L hop : ℕ) → Update
 add t m p L hop = update (add-refusal t m p L hop) (added t m p L hop) m
 
+-- withdraw
 unfoldable pub withdraw : Settings → Memory → (p L : ℕ) → Update
 withdraw t m p L = update (withdraw-refusal t m p L) (withdrawn t m p L) m
 
+-- and change
 unfoldable pub change : Settings → Memory → (p L hop : ℕ) → Update
 change t m p L hop = update (change-refusal t m p L hop) (changed t m p L hop) m
 

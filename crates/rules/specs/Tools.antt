@@ -1,4 +1,4 @@
--- Four small tools in which the rules are written; none of them knows of routes.
+-- Small tools in which the rules are written; none of them knows of routes.
 use Prim.Native.Nat.{ℕ, zero, suc, _+_}
 use mathlib.Core.Bool.{Bool, true, false, cond, _&&_, _||_}
 use mathlib.Core.List.{List, [], _∷_}

@@ -7,7 +7,7 @@ ghost use Rattle.rules.specs.Table.{Memory, lent, in-range, counters-size, slot
 use rules::Settings;
 
 // Whether a number is low, high or between them.
-pub fn is_within(low: u32, high: u32, n: u32) -> bool
+fn is_within(low: u32, high: u32, n: u32) -> bool
     ensures { λ r. ⌜ r ≡ within low high n ⌝ }
 {
     if n < low {

@@ -1,2 +1,3 @@
--- The laws that the proofs of several calls share.
+-- What the contracts determine, and the law that two of the proofs share.
+pub mod Determined
 pub mod Zeros

@@ -80,6 +80,7 @@ pub fn add(
     }
     let vacancy = first_free(settings, slots, length, p);
     let Vacancy::At(slot) = vacancy else {
+        // Past the checks there is such a slot.
         return 0;
     };
     put_slot(slots, slot, p, hop + 1);
@@ -112,6 +113,7 @@ pub fn withdraw(
         probes: _,
     } = place
     else {
+        // Past the checks there is such a slot.
         return 0;
     };
     put_slot(slots, slot, 0, 0);
@@ -145,6 +147,7 @@ pub fn change(
         probes: _,
     } = place
     else {
+        // Past the checks there is such a slot.
         return 0;
     };
     put_slot(slots, slot, p, hop + 1);

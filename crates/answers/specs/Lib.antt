@@ -1,0 +1,2 @@
+-- The bytes that the text program writes.
+pub mod Texts

@@ -1,0 +1,30 @@
+-- What whoever feeds a stream may rely on: the answers are those to the input's lines taken one by one, wherever it was cut.
+use Prim.Native.Nat.{ℕ, _≤_}
+use mathlib.Core.Path.{_≡_, refl, ap, sym, _∙_}
+use mathlib.Core.List.{List, [], _∷_, _++_}
+use lib.ListN.{length}
+use lib.Dec.{lit≤}
+use Rattle.rules.specs.declared.Settings.{Settings}
+use Rattle.rules.specs.Table.{Memory}
+use Rattle.lines.specs.Lines.{lines, answers, Stream, going, feed, written, joined}
+use Rattle.lines.proofs.Owed.{Keeps, owed, owed-last, unfinished, keeps-chunk, owed-chunk}
+
+-- chunk after chunk, all that is owed is written
+all-written : (t : Settings) (chunks : List (List ℕ)) {begun : List ℕ} {s : Stream} → Keeps begun s → written t s chunks ≡ owed t s begun (joined chunks)
+unfolding written joined
+all-written t [] k = owed-last k t
+all-written t (chunk ∷ chunks) {begun} {s} k =
+    let k′ = keeps-chunk t chunk k in
+    let next : Keeps (unfinished chunk begun) (going (feed t s chunk .memory) (feed t s chunk .line) (feed t s chunk .count)) =
+    record { room = k′ .room; kept-in = k′ .kept-in; first = k′ .first } in
+    ap (λ (rest : List ℕ). feed t s chunk .text ++ rest) (all-written t chunks next) ∙ owed-chunk t chunk (joined chunks) k
+
+-- What is written to an input equals the answers to its lines, taken one by one.
+pub one-by-one : (t : Settings) (m : Memory) (line : List ℕ) (chunks : List (List ℕ)) → 65 ≤ length line → written t (going m line 0) chunks ≡ answers t m (lines (joined chunks))
+unfolding lines
+one-by-one t m line chunks room = all-written t chunks {begun = []} (record { room = room; kept-in = lit≤ tt; first = refl })
+
+-- It does not depend on how the input was cut, nor on what the lent bytes held.
+pub any-cut : (t : Settings) (m : Memory) (line line′ : List ℕ) (chunks chunks′ : List (List ℕ)) → 65 ≤ length line → 65 ≤ length line′ → joined chunks ≡ joined chunks′ → written t (going m line 0) chunks ≡ written t (going m line′ 0) chunks′
+any-cut t m line line′ chunks chunks′ room room′ same =
+    one-by-one t m line chunks room ∙ ap (λ (input : List ℕ). answers t m (lines input)) same ∙ sym (one-by-one t m line′ chunks′ room′)

@@ -1,0 +1,2 @@
+-- What lines are answered, one by one and out of a stream.
+pub mod Lines

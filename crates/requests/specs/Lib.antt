@@ -1,0 +1,2 @@
+-- The shapes of the lines that the text program reads.
+pub mod Shapes

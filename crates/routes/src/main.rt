@@ -1,0 +1,96 @@
+// The text program: the lines of standard input, answered by a small table that starts cleared.
+// What has been read is answered before more is waited for; a read or a write that fails ends it.
+ghost use Prim.Native.Nat.{_≤_};
+ghost use mathlib.Core.Path.{_≡_};
+ghost use lib.ListN.{length};
+ghost use Rattle.lines.specs.Lines.{Room};
+use libc::STDIN_FILENO;
+use libc::STDOUT_FILENO;
+use rules::Settings;
+
+// Writes the first n bytes.
+fn write_first(bytes: &[u8], n: usize) -> bool
+    requires { ⌜ n ≤ length (now bytes) ⌝ }
+{
+    io::write_all(STDOUT_FILENO, &bytes[..n])
+}
+
+// Answers all of standard input, a chunk at a time.
+fn serve(
+    settings: Settings,
+    counters: &mut [u8],
+    slots: &mut [u32],
+    line: &mut [u8],
+    chunk: &mut [u8],
+    out: &mut [u8],
+)
+    requires { ⌜ Room (now line) 0 (now chunk) (now out) ⌝ }
+    requires { ⌜ 33 ≤ length (now out) ⌝ }
+{
+    let mut kept = 0;
+    // A proved loop has to end, and nothing says that the input does: no run uses these turns up.
+    let mut turns = u64::MAX;
+    while turns > 0 {
+        let got = libc::read(STDIN_FILENO, chunk);
+        if got < 0 {
+            return;
+        }
+        if got == 0 {
+            let written = lines::finish_input(settings, counters, slots, line, kept, out);
+            write_first(out, written);
+            return;
+        }
+        let n = io::count(got, chunk);
+        let fed = lines::feed_chunk(settings, counters, slots, line, kept, &chunk[..n], out);
+        if !write_first(out, fed.written) {
+            return;
+        }
+        kept = fed.count;
+        turns -= 1;
+    }
+}
+
+// Room for the answers to a chunk of 16,384 bytes: 33 for each.
+fn answers_room() -> [u8; 540672]
+    ensures { λ r. ⌜ 540672 ≡ length r ⌝ }
+{
+    [0; 540672]
+}
+
+fn chunk_room() -> [u8; 16384]
+    ensures { λ r. ⌜ 16384 ≡ length r ⌝ }
+{
+    [0; 16384]
+}
+
+fn line_room() -> [u8; 65]
+    ensures { λ r. ⌜ 65 ≡ length r ⌝ }
+{
+    [0; 65]
+}
+
+fn main() {
+    let settings = Settings {
+        k: 2,
+        d: 4,
+        e: 1,
+        s: 2,
+        a: 1,
+        b: 2,
+        c: 1,
+    };
+    let mut counters = [0u8; 512];
+    let mut slots = [0u32; 257];
+    table::clear(settings, &mut counters, &mut slots);
+    let mut line = line_room();
+    let mut chunk = chunk_room();
+    let mut out = answers_room();
+    serve(
+        settings,
+        &mut counters,
+        &mut slots,
+        &mut line,
+        &mut chunk,
+        &mut out,
+    );
+}

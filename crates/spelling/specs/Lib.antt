@@ -1,0 +1,2 @@
+-- A quoted text as bytes.
+pub mod Spelling

@@ -1,0 +1,1 @@
+// A quoted text as bytes, for the definitions that name one. There is no code here.
