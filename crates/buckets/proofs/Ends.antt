@@ -13,7 +13,7 @@ use Rattle.rules.specs.Table.{in-range, prefix, slot-number, mark-word, mark-at
 use Rattle.rules.specs.Ready.{Ready, Slots}
 use Rattle.rules.proofs.Members.{both}
 use Rattle.rules.proofs.Lowest.{some-lowest}
-use Rattle.rules.proofs.Placing.{words-fit, default-fits}
+use Rattle.buckets.proofs.Slots.{slot-lent}
 
 -- a slot by its number: its words are lent, and its mark is occupied
 pub record Ended (slots : List ℕ) (slot : ℕ) : Type 0 where
@@ -21,18 +21,15 @@ pub record Ended (slots : List ℕ) (slot : ℕ) : Type 0 where
   pub taken : occupied (mark-at slots slot) ≡ true
 
 module _ (t : Settings) (slots : List ℕ) (sized : Slots t slots) where
-  slot-lent : (L p s : ℕ) → Ready t L → s < t .s → mark-word (slot-number t L p s) < length slots
-  slot-lent L p s ready h = rw (sized .size) (omega (arith, words-fit t L p s ready h .mark, default-fits t))
-
   pub vacant-lent : (L p s : ℕ) → Ready t L → vacant t slots L p ≡ some s → mark-word (slot-number t L p s) < length slots
   unfolding vacant
-  vacant-lent L p s ready e = slot-lent L p s ready (some-lowest (free t slots L p) (t .s) s e .within)
+  vacant-lent L p s ready e = slot-lent t slots sized L p s ready (some-lowest (free t slots L p) (t .s) s e .within)
 
   pub held-ended : (L p s : ℕ) → Ready t L → held t slots L p ≡ some s → Ended slots (slot-number t L p s)
   unfolding held holds
   held-ended L p s ready e =
       let low = some-lowest (holds t slots L p) (t .s) s e in
-      record { is-lent = slot-lent L p s ready (low .within); taken = both _ _ (low .passes) .0 }
+      record { is-lent = slot-lent t slots sized L p s ready (low .within); taken = both _ _ (low .passes) .0 }
 
   -- lengths that have buckets
   pub data Lengths : List ℕ → Type 0 where

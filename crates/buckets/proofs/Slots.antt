@@ -1,17 +1,17 @@
 -- Slots of a bucket by their number: what the code counts from the first one is `slot-number`, and lies within the lent words.
 use Prim.Native.Nat.{ℕ, _+_, _-_, _*_, _%_, _^_, _≤_, _<_}
 use mathlib.Core.Path.{_≡_, ap}
-use mathlib.Core.Bool.{Bool, not, _&&_}
+use mathlib.Core.Bool.{Bool, not}
 use mathlib.Core.List.{List}
 use native.Mathlib.Nat.{mul-le-mul, mod-eq-of-lt}
 use native.Mathlib.Omega.{arith}
-use lib.Dec.{eqb}
 use lib.ListN.{length}
 use lib.Pow.{pow-mono}
 use Rattle.rules.specs.declared.Settings.{Settings}
-use Rattle.rules.specs.Table.{bucket, slot-number, mark-word, default-word, mark-at, prefix-at, occupied, free, holds}
+use Rattle.rules.specs.Table.{bucket, slot-number, mark-word, default-word, mark-at, occupied, free, holds}
 use Rattle.rules.specs.Ready.{Ready, Slots}
 use Rattle.rules.proofs.Placing.{ranges, bucket-lt, words-fit, default-fits}
+use Rattle.buckets.specs.Turns.{holding}
 
 module _ (t : Settings) (L p : ℕ) (ready : Ready t L) where
   -- the buckets of the lengths before L are few, so that their number does not wrap
@@ -33,11 +33,13 @@ pub counted : (t : Settings) (L p s first : ℕ) → first ≡ slot-number t L p
 unfolding slot-number
 counted t L p s first from = omega arith
 
+-- its words are lent
+pub slot-lent : (t : Settings) (slots : List ℕ) → Slots t slots → (L p s : ℕ) → Ready t L → s < t .s → mark-word (slot-number t L p s) < length slots
+slot-lent t slots sized L p s ready h = rw (sized .size) (omega (arith, words-fit t L p s ready h .mark, default-fits t))
+
 module _ (t : Settings) (slots : List ℕ) (L p s first : ℕ) (from : first ≡ slot-number t L p 0) where
-  -- its words are lent
   pub is-lent : Ready t L → Slots t slots → s < t .s → mark-word (first + s) < length slots
-  is-lent ready sized h =
-      rw (counted t L p s first from, sized .size) (omega (arith, words-fit t L p s ready h .mark, default-fits t))
+  is-lent ready sized h = rw (counted t L p s first from) (slot-lent t slots sized L p s ready h)
 
   -- the test of its mark is the rules'
   pub free-by : (mark : ℕ) (r : Bool) → mark ≡ mark-at slots (first + s) → r ≡ occupied mark → free t slots L p s ≡ not r
@@ -45,7 +47,7 @@ module _ (t : Settings) (slots : List ℕ) (L p s first : ℕ) (from : first ≡
   free-by mark r m o = rw (o, m, counted t L p s first from)
 
   -- and so is that of mark and prefix
-  pub holds-by : (r : Bool) → r ≡ occupied (mark-at slots (first + s)) && eqb (prefix-at slots (first + s)) p → holds t slots L p s ≡ r
+  pub holds-by : (r : Bool) → r ≡ holding slots (first + s) p → holds t slots L p s ≡ r
   unfolding holds
   holds-by r h = rw (h, counted t L p s first from)
 

@@ -1,11 +1,11 @@
 // Buckets of slots, over lent words: a slot's prefix, then its mark.
 ghost use mathlib.Core.Path.{_≡_};
-ghost use mathlib.Core.Bool.{true, _&&_};
+ghost use mathlib.Core.Bool.{true};
 ghost use Prim.Native.Nat.{_<_};
-ghost use lib.Dec.{eqb};
 ghost use lib.ListN.{length, set};
-ghost use Rattle.rules.specs.Table.{in-range, slot-number, mark-word, default-word, mark-at, prefix-at, default-mark, with-slot, set-bits, search, held, vacant, found-or, prefix, occupied};
+ghost use Rattle.rules.specs.Table.{in-range, slot-number, mark-word, default-word, mark-at, default-mark, with-slot, set-bits, search, held, vacant, found-or, prefix, occupied};
 ghost use Rattle.rules.specs.Ready.{Ready, Slots};
+ghost use Rattle.buckets.specs.Turns.{Turned, holding};
 ghost use Rattle.buckets.specs.Vacancy.{vacancy-of};
 use hashes::bucket_of;
 use prefixes::prefix_of;
@@ -16,6 +16,14 @@ use rules::Settings;
 pub enum Vacancy {
     At(usize),
     Full,
+}
+
+// One length's part in a search of buckets.
+pub struct Turn {
+    pub length: u32,
+    pub prefix: u32,
+    pub first: usize,
+    pub left: u32,
 }
 
 // Whether a mark means that its slot, or the default, is occupied.
@@ -71,9 +79,28 @@ pub fn put_slot(slots: &mut [u32], slot: usize, prefix: u32, mark: u32)
 // Whether a slot, by its number, is occupied and holds a prefix.
 fn holds_at(slots: &[u32], slot: usize, prefix: u32) -> bool
     requires { ⌜ mark-word slot < length (now slots) ⌝ }
-    ensures { λ r. ⌜ r ≡ occupied (mark-at (now (slots .entry)) slot) && eqb (prefix-at (now (slots .entry)) slot) prefix ⌝ }
+    ensures { λ r. ⌜ r ≡ holding (now (slots .entry)) slot prefix ⌝ }
 {
     is_occupied(mark_at(slots, slot)) && slots[2 * slot] == prefix
+}
+
+// A turn of a search: the longest length that is left, the address's prefix of it, the first slot of
+// that prefix's bucket, and the lengths that are left after it.
+pub fn turn_of(settings: Settings, address: u32, lengths: u32) -> Turn
+    requires { ⌜ in-range settings ≡ true ⌝ }
+    requires { ⌜ (lengths ≡ 0 → ⊥) ⌝ }
+    ensures { λ r. ⌜ Turned settings address lengths r ⌝ }
+{
+    let length = 32 - u32::leading_zeros(lengths);
+    let prefix = prefix_of(length, address);
+    let first = first_slot(settings, length, prefix);
+    let left = lengths - (1 << (length - 1));
+    Turn {
+        length,
+        prefix,
+        first,
+        left,
+    }
 }
 
 // Searches the buckets of an address at the lengths whose bits are set in `lengths`, from the
@@ -87,24 +114,22 @@ pub fn search_buckets(settings: Settings, slots: &[u32], address: u32, lengths: 
     let mut left = lengths;
     let mut probes: u32 = 0;
     'lengths: while left != 0 {
-        let length = 32 - u32::leading_zeros(left);
-        let prefix = prefix_of(length, address);
-        let first = first_slot(settings, length, prefix);
+        let turn = turn_of(settings, address, left);
         probes += 1;
         let mut s: u32 = 0;
         while s < settings.s {
-            let slot = first + s as usize;
-            if holds_at(slots, slot, prefix) {
+            let slot = turn.first + s as usize;
+            if holds_at(slots, slot, turn.prefix) {
                 found = Place::At {
-                    slot: slot,
-                    length: length,
-                    probes: probes,
+                    slot,
+                    length: turn.length,
+                    probes,
                 };
                 break 'lengths;
             }
             s += 1;
         }
-        left -= 1 << (length - 1);
+        left = turn.left;
     }
     found
 }

@@ -1,0 +1,294 @@
+/* The scheme by hand: as plain and as fast as C allows without changing what is stored. */
+#include "table.h"
+
+#include <string.h>
+
+#define REFUSED(number) ((uint64_t)(number) << 48)
+
+struct settings {
+    uint32_t k, d, e, s, a, b, c;
+};
+
+static uint32_t prefix_of(uint32_t length, uint32_t address)
+{
+    return length == 0 ? 0 : address & (0xffffffffu << (32 - length));
+}
+
+static size_t first_slot(const struct settings *t, uint32_t length, uint32_t p)
+{
+    uint32_t bucket = t->e == 0 ? 0 : t->c * p >> (32 - t->e);
+    return ((((size_t)length - 1) << t->e) + bucket) * t->s;
+}
+
+static int occupied(uint32_t mark)
+{
+    return mark - 1 < 65536;
+}
+
+/* A word that may lie at any address. */
+static uint32_t word(const uint8_t *slots, size_t i)
+{
+    uint32_t w;
+    memcpy(&w, slots + 4 * i, 4);
+    return w;
+}
+
+static uint64_t refuse_memory(const struct settings *t, size_t counters_bytes, size_t slots_words)
+{
+    if (t->k < 1 || t->k > 8 || t->d < 4 || t->d > 11 || t->e > 8 || t->s < 1 || t->s > 8)
+        return 1;
+    if (counters_bytes != (size_t)32 << t->d || slots_words != ((size_t)64 << t->e) * t->s + 1)
+        return 2;
+    return 0;
+}
+
+static uint64_t refuse_bytes(const struct settings *t, size_t counters_bytes, size_t slots_bytes)
+{
+    uint64_t refusal = refuse_memory(t, counters_bytes, slots_bytes / 4);
+    return refusal == 0 && slots_bytes % 4 != 0 ? 2 : refusal;
+}
+
+static uint64_t refuse_route(const struct settings *t, size_t counters_bytes, size_t slots_words,
+                             uint32_t p, uint32_t length)
+{
+    uint64_t refusal = refuse_memory(t, counters_bytes, slots_words);
+    if (refusal != 0)
+        return refusal;
+    if (length > 32)
+        return 3;
+    return prefix_of(length, p) != p ? 4 : 0;
+}
+
+/* The lowest slot that is occupied and holds p; one past the bucket's last if there is none. */
+static size_t held(const struct settings *t, const uint32_t *slots, size_t first, uint32_t p)
+{
+    size_t n = first;
+    while (n < first + t->s && !(slots[2 * n] == p && occupied(slots[2 * n + 1])))
+        n++;
+    return n;
+}
+
+/* The lowest free slot; one past the bucket's last if there is none. */
+static size_t vacant(const struct settings *t, const uint32_t *slots, size_t first)
+{
+    size_t n = first;
+    while (n < first + t->s && occupied(slots[2 * n + 1]))
+        n++;
+    return n;
+}
+
+/* The K counters of p; the answer is how many there are. */
+static uint32_t places(const struct settings *t, uint32_t length, uint32_t p, size_t place[8])
+{
+    uint32_t g = t->a * p;
+    for (uint32_t i = 0; i < t->k; i++) {
+        place[i] = (((size_t)length - 1) << t->d) + (g >> (32 - t->d));
+        g += t->b * p;
+    }
+    return t->k;
+}
+
+static uint32_t hits(const size_t *place, uint32_t many, size_t at)
+{
+    uint32_t n = 0;
+    for (uint32_t i = 0; i < many; i++)
+        n += place[i] == at;
+    return n;
+}
+
+uint64_t hand_clear(uint32_t k, uint32_t d, uint32_t e, uint32_t s, uint32_t a, uint32_t b,
+                    uint32_t c, uint8_t *counters, size_t counters_bytes, uint32_t *slots,
+                    size_t slots_words)
+{
+    const struct settings t = {k, d, e, s, a, b, c};
+    uint64_t refusal = refuse_memory(&t, counters_bytes, slots_words);
+    if (refusal != 0)
+        return REFUSED(refusal);
+    memset(counters, 0, counters_bytes);
+    memset(slots, 0, 4 * slots_words);
+    return 0;
+}
+
+uint64_t hand_add(uint32_t k, uint32_t d, uint32_t e, uint32_t s, uint32_t a, uint32_t b,
+                  uint32_t c, uint8_t *counters, size_t counters_bytes, uint32_t *slots,
+                  size_t slots_words, uint32_t prefix, uint32_t length, uint32_t hop)
+{
+    const struct settings t = {k, d, e, s, a, b, c};
+    uint64_t refusal = refuse_route(&t, counters_bytes, slots_words, prefix, length);
+    if (refusal != 0)
+        return REFUSED(refusal);
+    if (hop > 65535)
+        return REFUSED(5);
+    if (length == 0) {
+        if (occupied(slots[slots_words - 1]))
+            return REFUSED(6);
+        slots[slots_words - 1] = hop + 1;
+        return 0;
+    }
+    size_t first = first_slot(&t, length, prefix);
+    if (held(&t, slots, first, prefix) < first + s)
+        return REFUSED(6);
+    size_t n = vacant(&t, slots, first);
+    if (n == first + s)
+        return REFUSED(8);
+    size_t place[8];
+    uint32_t many = places(&t, length, prefix, place);
+    for (uint32_t i = 0; i < many; i++)
+        if (counters[place[i]] + hits(place, many, place[i]) > 15)
+            return REFUSED(9);
+    slots[2 * n] = prefix;
+    slots[2 * n + 1] = hop + 1;
+    for (uint32_t i = 0; i < many; i++)
+        counters[place[i]]++;
+    return 0;
+}
+
+uint64_t hand_withdraw(uint32_t k, uint32_t d, uint32_t e, uint32_t s, uint32_t a, uint32_t b,
+                       uint32_t c, uint8_t *counters, size_t counters_bytes, uint32_t *slots,
+                       size_t slots_words, uint32_t prefix, uint32_t length)
+{
+    const struct settings t = {k, d, e, s, a, b, c};
+    uint64_t refusal = refuse_route(&t, counters_bytes, slots_words, prefix, length);
+    if (refusal != 0)
+        return REFUSED(refusal);
+    if (length == 0) {
+        if (!occupied(slots[slots_words - 1]))
+            return REFUSED(7);
+        slots[slots_words - 1] = 0;
+        return 0;
+    }
+    size_t first = first_slot(&t, length, prefix);
+    size_t n = held(&t, slots, first, prefix);
+    if (n == first + s)
+        return REFUSED(7);
+    size_t place[8];
+    uint32_t many = places(&t, length, prefix, place);
+    for (uint32_t i = 0; i < many; i++)
+        if (counters[place[i]] < hits(place, many, place[i]))
+            return REFUSED(10);
+    slots[2 * n] = 0;
+    slots[2 * n + 1] = 0;
+    for (uint32_t i = 0; i < many; i++)
+        counters[place[i]]--;
+    return 0;
+}
+
+uint64_t hand_change(uint32_t k, uint32_t d, uint32_t e, uint32_t s, uint32_t a, uint32_t b,
+                     uint32_t c, uint8_t *counters, size_t counters_bytes, uint32_t *slots,
+                     size_t slots_words, uint32_t prefix, uint32_t length, uint32_t hop)
+{
+    (void)counters;
+    const struct settings t = {k, d, e, s, a, b, c};
+    uint64_t refusal = refuse_route(&t, counters_bytes, slots_words, prefix, length);
+    if (refusal != 0)
+        return REFUSED(refusal);
+    if (hop > 65535)
+        return REFUSED(5);
+    if (length == 0) {
+        if (!occupied(slots[slots_words - 1]))
+            return REFUSED(7);
+        slots[slots_words - 1] = hop + 1;
+        return 0;
+    }
+    size_t first = first_slot(&t, length, prefix);
+    size_t n = held(&t, slots, first, prefix);
+    if (n == first + s)
+        return REFUSED(7);
+    slots[2 * n + 1] = hop + 1;
+    return 0;
+}
+
+static inline int claims(const struct settings *t, const uint8_t *counters, uint32_t length,
+                         uint32_t p)
+{
+    const uint8_t *filter = counters + (((size_t)length - 1) << t->d);
+    uint32_t g = t->a * p, growth = t->b * p;
+    for (uint32_t i = 0; i < t->k; i++) {
+        if (filter[g >> (32 - t->d)] == 0)
+            return 0;
+        g += growth;
+    }
+    return 1;
+}
+
+static inline uint32_t vector_of(const struct settings *t, const uint8_t *counters, uint32_t address)
+{
+    uint32_t vector = 0;
+    for (uint32_t length = 1; length <= 32; length++)
+        if (claims(t, counters, length, prefix_of(length, address)))
+            vector |= 1u << (length - 1);
+    return vector;
+}
+
+/* The mark of the lowest slot that is occupied and holds p, or 0. */
+static inline uint32_t probe(const struct settings *t, const uint8_t *slots, uint32_t length,
+                             uint32_t p)
+{
+    size_t first = first_slot(t, length, p);
+    for (size_t n = first; n < first + t->s; n++)
+        if (word(slots, 2 * n) == p && occupied(word(slots, 2 * n + 1)))
+            return word(slots, 2 * n + 1);
+    return 0;
+}
+
+static inline uint64_t answer(uint32_t mark, uint32_t length, uint32_t probes)
+{
+    return (uint64_t)1 << 40 | (uint64_t)(mark - 1) << 16 | length << 8 | probes;
+}
+
+static inline uint64_t default_answer(const uint8_t *slots, size_t slots_bytes, uint32_t probes)
+{
+    uint32_t mark = word(slots, slots_bytes / 4 - 1);
+    return occupied(mark) ? answer(mark, 0, probes) : probes;
+}
+
+uint64_t hand_match_vector(uint32_t k, uint32_t d, uint32_t e, uint32_t s, uint32_t a, uint32_t b,
+                           uint32_t c, const uint8_t *counters, size_t counters_bytes,
+                           const uint8_t *slots, size_t slots_bytes, uint32_t address)
+{
+    (void)slots;
+    const struct settings t = {k, d, e, s, a, b, c};
+    uint64_t refusal = refuse_bytes(&t, counters_bytes, slots_bytes);
+    return refusal != 0 ? REFUSED(refusal) : vector_of(&t, counters, address);
+}
+
+uint64_t hand_lookup(uint32_t k, uint32_t d, uint32_t e, uint32_t s, uint32_t a, uint32_t b,
+                     uint32_t c, const uint8_t *counters, size_t counters_bytes,
+                     const uint8_t *slots, size_t slots_bytes, uint32_t address)
+{
+    const struct settings t = {k, d, e, s, a, b, c};
+    uint64_t refusal = refuse_bytes(&t, counters_bytes, slots_bytes);
+    if (refusal != 0)
+        return REFUSED(refusal);
+    uint32_t vector = vector_of(&t, counters, address), probes = 0;
+    for (uint32_t left = vector; left != 0;) {
+        uint32_t length = 32 - (uint32_t)__builtin_clz(left);
+        probes++;
+        uint32_t mark = probe(&t, slots, length, prefix_of(length, address));
+        if (mark != 0)
+            return answer(mark, length, probes);
+        left ^= 1u << (length - 1);
+    }
+    return default_answer(slots, slots_bytes, probes);
+}
+
+uint64_t hand_lookup_in_turn(uint32_t k, uint32_t d, uint32_t e, uint32_t s, uint32_t a, uint32_t b,
+                             uint32_t c, const uint8_t *counters, size_t counters_bytes,
+                             const uint8_t *slots, size_t slots_bytes, uint32_t address)
+{
+    const struct settings t = {k, d, e, s, a, b, c};
+    uint64_t refusal = refuse_bytes(&t, counters_bytes, slots_bytes);
+    if (refusal != 0)
+        return REFUSED(refusal);
+    uint32_t probes = 0;
+    for (uint32_t length = 32; length > 0; length--) {
+        uint32_t p = prefix_of(length, address);
+        if (!claims(&t, counters, length, p))
+            continue;
+        probes++;
+        uint32_t mark = probe(&t, slots, length, p);
+        if (mark != 0)
+            return answer(mark, length, probes);
+    }
+    return default_answer(slots, slots_bytes, probes);
+}

@@ -1,0 +1,38 @@
+/* The scheme written by hand in C, to measure the proved one against. The calls are those of gateway.h. */
+#ifndef TABLE_H
+#define TABLE_H
+
+#include <stddef.h>
+#include <stdint.h>
+
+uint64_t hand_clear(uint32_t k, uint32_t d, uint32_t e, uint32_t s, uint32_t a, uint32_t b,
+                    uint32_t c, uint8_t *counters, size_t counters_bytes, uint32_t *slots,
+                    size_t slots_words);
+
+uint64_t hand_add(uint32_t k, uint32_t d, uint32_t e, uint32_t s, uint32_t a, uint32_t b,
+                  uint32_t c, uint8_t *counters, size_t counters_bytes, uint32_t *slots,
+                  size_t slots_words, uint32_t prefix, uint32_t length, uint32_t hop);
+
+uint64_t hand_withdraw(uint32_t k, uint32_t d, uint32_t e, uint32_t s, uint32_t a, uint32_t b,
+                       uint32_t c, uint8_t *counters, size_t counters_bytes, uint32_t *slots,
+                       size_t slots_words, uint32_t prefix, uint32_t length);
+
+uint64_t hand_change(uint32_t k, uint32_t d, uint32_t e, uint32_t s, uint32_t a, uint32_t b,
+                     uint32_t c, uint8_t *counters, size_t counters_bytes, uint32_t *slots,
+                     size_t slots_words, uint32_t prefix, uint32_t length, uint32_t hop);
+
+/* The filters are asked first, all of them, then the buckets of the set bits from the highest down. */
+uint64_t hand_lookup(uint32_t k, uint32_t d, uint32_t e, uint32_t s, uint32_t a, uint32_t b,
+                     uint32_t c, const uint8_t *counters, size_t counters_bytes,
+                     const uint8_t *slots, size_t slots_bytes, uint32_t address);
+
+/* The same answers, but a length's filter is asked only when the search gets there. */
+uint64_t hand_lookup_in_turn(uint32_t k, uint32_t d, uint32_t e, uint32_t s, uint32_t a, uint32_t b,
+                             uint32_t c, const uint8_t *counters, size_t counters_bytes,
+                             const uint8_t *slots, size_t slots_bytes, uint32_t address);
+
+uint64_t hand_match_vector(uint32_t k, uint32_t d, uint32_t e, uint32_t s, uint32_t a, uint32_t b,
+                           uint32_t c, const uint8_t *counters, size_t counters_bytes,
+                           const uint8_t *slots, size_t slots_bytes, uint32_t address);
+
+#endif

@@ -1,0 +1,93 @@
+-- A search of buckets, turn by turn: what holds between two lengths, and between two slots of a bucket.
+use Prim.Native.Nat.{ℕ, _+_, _-_, _^_, _≤_, _<_}
+use mathlib.Core.Path.{_≡_, refl, _∙_, sym}
+use mathlib.Core.Bool.{Bool, true, false}
+use mathlib.Core.List.{List}
+use mathlib.Core.Option.{none}
+use native.Mathlib.Omega.{arith}
+use lib.ListN.{length}
+use lib.Pow.{pow-pos}
+use Rattle.rules.specs.declared.Settings.{Settings}
+use Rattle.rules.specs.declared.Place.{Place}
+use Rattle.rules.specs.declared.Place.the-variants.{At, Absent}
+use Rattle.rules.specs.Tools.{lowest}
+use Rattle.rules.specs.Table.{in-range, mark-word, set-bits, holds, held, found-or, search}
+use Rattle.rules.specs.Ready.{Slots}
+use Rattle.rules.proofs.Lowest.{lowest-on, lowest-here, none-before}
+use Rattle.rules.proofs.Vectors.{set-bits-top, set-bits-zero}
+use Rattle.buckets.specs.declared.Turn.{Turn}
+use Rattle.buckets.specs.Turns.{Turned, holding}
+use Rattle.buckets.proofs.Slots.{counted, is-lent, holds-by}
+
+-- a turn leaves fewer lengths
+pub less : {t : Settings} {address lengths : ℕ} {turn : Turn} → Turned t address lengths turn → turn .left < lengths
+less {lengths} {turn} at =
+    let longest = at .longest in
+    rw (at .rest) (omega (arith, pow-pos (turn .length - 1)))
+
+-- nothing is found yet, and the search of the lengths left, after the probes made, gives what the whole search gives
+pub record Between (t : Settings) (slots : List ℕ) (address lengths : ℕ) (found : Place) (left probes : ℕ) : Type 0 where
+  pub nothing : found ≡ Absent
+  pub same : search t slots address 0 (set-bits lengths) ≡ search t slots address probes (set-bits left)
+  pub few : left + probes < 2 ^ 32
+
+-- nothing is found yet, and no slot below s of the bucket holds p
+pub record Below (t : Settings) (slots : List ℕ) (L p : ℕ) (found : Place) (s : ℕ) : Type 0 where
+  pub nothing : found ≡ Absent
+  pub none-holds : lowest (holds t slots L p) s ≡ none
+
+module _ {t : Settings} {slots : List ℕ} where
+  -- before the first length, and after the last
+  pub begun : {address lengths : ℕ} → lengths < 2 ^ 32 → Between t slots address lengths Absent lengths 0
+  begun h = record { nothing = refl; same = refl; few = omega arith }
+
+  pub ended : {address lengths left probes : ℕ} {found : Place} → Between t slots address lengths found left probes → left ≡ 0
+      → found ≡ search t slots address 0 (set-bits lengths)
+  unfolding search
+  ended between last = between .nothing ∙ sym (between .same ∙ rw (last, set-bits-zero))
+
+  -- before the first slot of a bucket
+  pub opened : {L p : ℕ} {found : Place} → found ≡ Absent → Below t slots L p found 0
+  unfolding lowest
+  opened nothing = record { nothing = nothing; none-holds = refl }
+
+  -- a slot of a turn's bucket: its words are lent, and the search goes on where the code's test of it fails
+  module _ {address left s : ℕ} {turn : Turn} (at : Turned t address left turn) where
+    pub inside : in-range t ≡ true → Slots t slots → s < t .s → mark-word (turn .first + s) < length slots
+    inside range sized h =
+        is-lent t slots _ _ s _ (at .from) (record { range = range; low = at .longest .low; high = at .longest .high }) sized h
+
+    pub passed : {found : Place} {r : Bool} → Below t slots (turn .length) (turn .prefix) found s
+        → r ≡ holding slots (turn .first + s) (turn .prefix) → r ≡ false → Below t slots (turn .length) (turn .prefix) found (s + 1)
+    passed {found} {r} below ensured denied =
+        let test = holds-by t slots _ _ s _ (at .from) r ensured in
+        record { nothing = below .nothing; none-holds = lowest-on _ _ (below .none-holds) (test ∙ denied) }
+
+  -- a turn at the longest length that is left
+  module _ {address lengths left probes s : ℕ} {found now : Place} {turn : Turn} (at : Turned t address left turn) (between : Between t slots address lengths found left probes) (below : Below t slots (turn .length) (turn .prefix) now s) where
+    -- its bucket ends the search, or the other lengths go on with one probe more
+    by-bucket : search t slots address 0 (set-bits lengths)
+        ≡ found-or t (turn .length) (turn .prefix) (probes + 1) (held t slots (turn .length) (turn .prefix)) (search t slots address (probes + 1) (set-bits (turn .left)))
+    unfolding search
+    by-bucket =
+        let longest = at .longest in
+        between .same ∙ rw (set-bits-top left (turn .length) (longest .low) (longest .high) (longest .reached) (longest .passed), at .own, at .rest)
+
+    -- no slot of the bucket holds the prefix
+    pub next : t .s ≤ s → Between t slots address lengths now (turn .left) (probes + 1)
+    unfolding held
+    next all =
+        record {
+          nothing = below .nothing;
+          same = by-bucket ∙ rw (none-before (holds t slots (turn .length) (turn .prefix)) _ _ all (below .none-holds));
+          few = omega (arith, less at);
+        }
+
+    -- this slot does
+    pub here : {r : Bool} → s < t .s → r ≡ holding slots (turn .first + s) (turn .prefix) → r ≡ true
+        → At (turn .first + s) (turn .length) (probes + 1) ≡ search t slots address 0 (set-bits lengths)
+    unfolding held
+    here {r} within ensured told =
+        let test = holds-by t slots _ _ s _ (at .from) r ensured in
+        let lowest-is = lowest-here (holds t slots (turn .length) (turn .prefix)) _ _ within (below .none-holds) (test ∙ told) in
+        sym (by-bucket ∙ rw (lowest-is, counted t (turn .length) (turn .prefix) s _ (at .from)))

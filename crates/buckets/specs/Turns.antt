@@ -1,0 +1,27 @@
+-- What a turn of a search is made of, and what it tests of a slot.
+use Prim.Native.Nat.{ℕ, _-_, _^_, _≤_, _<_}
+use mathlib.Core.Path.{_≡_}
+use mathlib.Core.Bool.{Bool, _&&_}
+use mathlib.Core.List.{List}
+use lib.Dec.{eqb}
+use Rattle.rules.specs.declared.Settings.{Settings}
+use Rattle.rules.specs.Table.{prefix, slot-number, mark-at, prefix-at, occupied}
+use Rattle.buckets.specs.declared.Turn.{Turn}
+
+-- L is the longest length whose bit is set in v
+pub record Longest (v L : ℕ) : Type 0 where
+  pub low : 1 ≤ L
+  pub high : L ≤ 32
+  pub reached : 2 ^ (L - 1) ≤ v
+  pub passed : v < 2 ^ L
+
+-- the turn is at the longest of the lengths, and leaves the others
+pub record Turned (t : Settings) (address lengths : ℕ) (turn : Turn) : Type 0 where
+  pub longest : Longest lengths (turn .length)
+  pub own : turn .prefix ≡ prefix (turn .length) address
+  pub from : turn .first ≡ slot-number t (turn .length) (turn .prefix) 0
+  pub rest : turn .left ≡ lengths - 2 ^ (turn .length - 1)
+
+-- slot n, by its number, is occupied and holds p
+abbrev pub holding : (slots : List ℕ) (n p : ℕ) → Bool
+holding slots n p = occupied (mark-at slots n) && eqb (prefix-at slots n) p

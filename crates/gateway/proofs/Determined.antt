@@ -1,0 +1,44 @@
+-- Each call's contract leaves one result: two that meet it on the same arguments give back the same number and leave the
+-- same bytes and words.
+use Prim.Native.Nat.{ℕ}
+use mathlib.Core.Path.{_≡_, ap, sym, _∙_}
+use mathlib.Core.List.{List}
+use contract.Lifetimes.{Lfts}
+use denote.Ref.{now}
+use Rattle.rules.specs.Table.{Memory, Update}
+use Rattle.gateway.specs.Crossing.{Crossed}
+use Rattle.gateway.proofs.gateway_clear.Reads as clear
+use Rattle.gateway.proofs.gateway_add.Reads as add
+use Rattle.gateway.proofs.gateway_withdraw.Reads as withdraw
+use Rattle.gateway.proofs.gateway_change.Reads as change
+use Rattle.gateway.proofs.gateway_match_vector.Reads as match-vector
+use Rattle.gateway.proofs.gateway_lookup.Reads as lookup
+
+-- the two lists that an update leaves stand after the seven settings
+alike : (u : Update) {r q : ℕ} {counters bytes slots words : List ℕ} → Crossed u r counters slots → Crossed u q bytes words
+    → (r ≡ q) × ((counters ≡ bytes) × (slots ≡ words))
+alike u one other =
+    let same = one .memory ∙ sym (other .memory) in
+    (one .number ∙ sym (other .number), (ap (λ (m : Memory). m .counters) same, ap (λ (m : Memory). m .slots) same))
+
+pub clear-determined : (κs : Lfts 2) (a : _) (r q : _) (s e : _) → clear.Post κs a r s → clear.Post κs a q e
+    → (r ≡ q) × ((now (s .1 .1 .1 .1 .1 .1 .1 .0) ≡ now (e .1 .1 .1 .1 .1 .1 .1 .0)) × (now (s .1 .1 .1 .1 .1 .1 .1 .1 .0) ≡ now (e .1 .1 .1 .1 .1 .1 .1 .1 .0)))
+clear-determined κs a r q s e one other = alike _ one other
+
+pub add-determined : (κs : Lfts 2) (a : _) (r q : _) (s e : _) → add.Post κs a r s → add.Post κs a q e
+    → (r ≡ q) × ((now (s .1 .1 .1 .1 .1 .1 .1 .0) ≡ now (e .1 .1 .1 .1 .1 .1 .1 .0)) × (now (s .1 .1 .1 .1 .1 .1 .1 .1 .0) ≡ now (e .1 .1 .1 .1 .1 .1 .1 .1 .0)))
+add-determined κs a r q s e one other = alike _ one other
+
+pub withdraw-determined : (κs : Lfts 2) (a : _) (r q : _) (s e : _) → withdraw.Post κs a r s → withdraw.Post κs a q e
+    → (r ≡ q) × ((now (s .1 .1 .1 .1 .1 .1 .1 .0) ≡ now (e .1 .1 .1 .1 .1 .1 .1 .0)) × (now (s .1 .1 .1 .1 .1 .1 .1 .1 .0) ≡ now (e .1 .1 .1 .1 .1 .1 .1 .1 .0)))
+withdraw-determined κs a r q s e one other = alike _ one other
+
+pub change-determined : (κs : Lfts 2) (a : _) (r q : _) (s e : _) → change.Post κs a r s → change.Post κs a q e
+    → (r ≡ q) × ((now (s .1 .1 .1 .1 .1 .1 .1 .0) ≡ now (e .1 .1 .1 .1 .1 .1 .1 .0)) × (now (s .1 .1 .1 .1 .1 .1 .1 .1 .0) ≡ now (e .1 .1 .1 .1 .1 .1 .1 .1 .0)))
+change-determined κs a r q s e one other = alike _ one other
+
+pub match-vector-determined : (κs : Lfts 2) (a : _) (r q : _) (s e : _) → match-vector.Post κs a r s → match-vector.Post κs a q e → r ≡ q
+match-vector-determined κs a r q s e one other = one ∙ sym other
+
+pub lookup-determined : (κs : Lfts 2) (a : _) (r q : _) (s e : _) → lookup.Post κs a r s → lookup.Post κs a q e → r ≡ q
+lookup-determined κs a r q s e one other = one ∙ sym other

@@ -1,0 +1,28 @@
+-- The checks are those of the rules, and then the vector is the one of the address.
+use mathlib.Core.Path.{_∙_, sym}
+use borrow.Author.Tests.{ne-eqb}
+use Rattle.rules.specs.Table.{match-vector}
+use Rattle.rules.proofs.Refusals.{memory-passed}
+use borrow.Author.Needs.{needs}
+use Rattle.gateway.proofs.match_vector.Statement.{statement}
+use Rattle.gateway.proofs.match_vector.Tie as tie
+
+refuse-bytes-requires : tie.Need-refuse-bytes-requires
+refuse-bytes-requires c κs = search needs
+
+returns : tie.Need-returns
+unfolding match-vector
+returns c = simp (← (c .before .refuse-bytes .ensures), ne-eqb _ _ (c .if1 .taken))
+
+vector-of-requires : tie.Need-vector-of-requires
+vector-of-requires c κs =
+    let f = memory-passed _ _ _ 0 (sym (c .before .refuse-bytes .ensures) ∙ c .if1 .left) .0 in
+    (f .range, record { size = f .counters-fit })
+
+returns-2 : tie.Need-returns-2
+unfolding match-vector
+returns-2 c = simp (← (c .before .before .refuse-bytes .ensures), c .before .if1 .left, ← (c .vector-of .ensures))
+
+pub match-vector-spec : {M : Type 1} → statement M
+match-vector-spec =
+    tie.close (tie.spec refuse-bytes-requires returns vector-of-requires returns-2)

@@ -1,0 +1,15 @@
+-- How a C program's numbers and lists are the rules' own.
+use Prim.Native.Nat.{ℕ, _*_, _^_}
+use mathlib.Core.List.{List}
+use mathlib.Core.Path.{_≡_}
+use Rattle.rules.specs.declared.Settings.{Settings}
+use Rattle.rules.specs.Table.{Memory, Update, lent}
+
+-- the seven numbers that come first in every call
+abbrev pub settings-of : (k d e s a b c : ℕ) → Settings
+settings-of k d e s a b c = record { k = k; d = d; e = e; s = s; a = a; b = b; c = c }
+
+-- what an update gives back and leaves: refusal·2^48, the counters and the slots
+pub record Crossed (u : Update) (answer : ℕ) (counters slots : List ℕ) : Type 0 where
+  pub number : answer ≡ u .refusal * 2 ^ 48
+  pub memory : lent counters slots ≡ u .memory

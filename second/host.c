@@ -1,0 +1,93 @@
+/*
+ * The library's side of the second program: does each call that it is sent on memory that both have
+ * mapped, and sends the answer back. It decides nothing. A process of its own lets the second program
+ * tell which call brings it down, and run on a machine that is no x86-64.
+ *
+ *     host FILE SIZE
+ *
+ * A request is sixteen numbers of 64 bits: the call, k, d, e, s, a, b, c, where the counters begin in
+ * the file and how many are lent, the same of the slots, then what the call has beside them. An answer
+ * is one such number.
+ */
+#define _XOPEN_SOURCE 600
+
+#include <gateway.h>
+
+#include <errno.h>
+#include <fcntl.h>
+#include <stdio.h>
+#include <stdlib.h>
+#include <string.h>
+#include <sys/mman.h>
+#include <sys/time.h>
+#include <unistd.h>
+
+enum { CLEAR, ADD, WITHDRAW, CHANGE, VECTOR, LOOKUP };
+
+enum { NUMBERS = 16, SECONDS_TO_END = 20, CALLS_BETWEEN = 256 };
+
+static void fail(const char *what)
+{
+    fprintf(stderr, "host: %s: %s\n", what, strerror(errno));
+    exit(2);
+}
+
+static uint64_t answer(uint8_t *memory, const uint64_t n[NUMBERS])
+{
+    const uint32_t k = (uint32_t)n[1], d = (uint32_t)n[2], e = (uint32_t)n[3], s = (uint32_t)n[4],
+                   a = (uint32_t)n[5], b = (uint32_t)n[6], c = (uint32_t)n[7];
+    uint8_t *counters = memory + n[8], *bytes = memory + n[10];
+    uint32_t *words = (uint32_t *)(void *)bytes;
+    const uint32_t asked = (uint32_t)n[12], length = (uint32_t)n[13], hop = (uint32_t)n[14];
+    switch (n[0]) {
+    case CLEAR: return gateway_clear(k, d, e, s, a, b, c, counters, n[9], words, n[11]);
+    case ADD: return gateway_add(k, d, e, s, a, b, c, counters, n[9], words, n[11], asked, length, hop);
+    case WITHDRAW: return gateway_withdraw(k, d, e, s, a, b, c, counters, n[9], words, n[11], asked, length);
+    case CHANGE: return gateway_change(k, d, e, s, a, b, c, counters, n[9], words, n[11], asked, length, hop);
+    case VECTOR: return gateway_match_vector(k, d, e, s, a, b, c, counters, n[9], bytes, n[11], asked);
+    case LOOKUP: return gateway_lookup(k, d, e, s, a, b, c, counters, n[9], bytes, n[11], asked);
+    default: errno = EINVAL; fail("an unknown call"); return 0;
+    }
+}
+
+/* 0 at the end of the requests. */
+static int read_request(uint64_t n[NUMBERS])
+{
+    size_t have = 0;
+    while (have < NUMBERS * sizeof n[0]) {
+        ssize_t got = read(STDIN_FILENO, (char *)n + have, NUMBERS * sizeof n[0] - have);
+        if (got == 0)
+            return 0;
+        if (got < 0 && errno != EINTR)
+            fail("read");
+        if (got > 0)
+            have += (size_t)got;
+    }
+    return 1;
+}
+
+int main(int argc, char **argv)
+{
+    if (argc != 3) {
+        fprintf(stderr, "usage: host FILE SIZE; the second program runs it\n");
+        return 2;
+    }
+    int file = open(argv[1], O_RDWR);
+    if (file < 0)
+        fail(argv[1]);
+    void *memory = mmap(NULL, strtoul(argv[2], NULL, 10), PROT_READ | PROT_WRITE, MAP_SHARED, file, 0);
+    if (memory == MAP_FAILED)
+        fail("mmap");
+
+    uint64_t n[NUMBERS];
+    for (unsigned long calls = 0; read_request(n); calls++) {
+        /* A call that does not end is ended, by the time that this process has worked. */
+        const struct itimerval limit = {{0, 0}, {SECONDS_TO_END, 0}};
+        if (calls % CALLS_BETWEEN == 0 && setitimer(ITIMER_VIRTUAL, &limit, NULL) != 0)
+            fail("setitimer");
+        uint64_t result = answer(memory, n);
+        if (write(STDOUT_FILENO, &result, sizeof result) != sizeof result)
+            fail("write");
+    }
+    return 0;
+}

@@ -1,0 +1,425 @@
+//! Random histories. A seed and a number fix a history, so that a failing one can be replayed.
+
+use crate::library::{Area, Library, MARGIN};
+use crate::pair::{Answer, Difference, Pair};
+use crate::random::Random;
+use crate::routes::Routes;
+use crate::rules::{self, Call, Lent, Settings};
+use crate::slips::Slip;
+use crate::tally::Tally;
+use std::fmt;
+
+/// A call at which the library and this program differ.
+pub struct Failure {
+    number: u64,
+    what: String,
+    difference: String,
+}
+
+impl fmt::Display for Failure {
+    fn fmt(&self, f: &mut fmt::Formatter) -> fmt::Result {
+        write!(f, "call {}: {}\n  {}", self.number, self.what, self.difference)
+    }
+}
+
+/// Hops and marks at which something changes.
+const HOPS: [u32; 6] = [0, 1, 7, 255, 65_534, 65_535];
+const HIGH_HOPS: [u32; 5] = [65_536, 65_537, 131_071, 1 << 31, u32::MAX];
+const MARKS: [u32; 9] = [0, 1, 2, 65_535, 65_536, 65_537, 131_072, 1 << 31, u32::MAX];
+const COUNTS: [u8; 11] = [0, 0, 1, 2, 7, 13, 14, 15, 16, 254, 255];
+
+/// The routes of the histories that fill their tables.
+const MOST_ROUTES: usize = 4000;
+
+/// How the history runs: what is got wrong on purpose, and whether each call is shown.
+#[derive(Clone, Copy)]
+pub struct Manner {
+    pub slip: Option<Slip>,
+    pub show: bool,
+}
+
+struct History<'a> {
+    library: &'a mut Library,
+    random: Random,
+    manner: Manner,
+    tally: &'a mut Tally,
+    t: Settings,
+    pool: Vec<(u32, u32)>,
+    adds: usize,
+    made: u64,
+}
+
+/// Runs one history to its end or to the first difference.
+pub fn run(
+    library: &mut Library,
+    seed: u64,
+    history: u64,
+    manner: Manner,
+    tally: &mut Tally,
+) -> Result<(), Failure> {
+    let mut random = Random::new(seed, history);
+    let t = settings(&mut random);
+    let pool = pool(&mut random);
+    let adds = random.pick(&[35, 50, 65, 80]);
+    tally.histories += 1;
+    History { library, random, manner, tally, t, pool, adds, made: 0 }.run()
+}
+
+/// Settings over their whole ranges, the small tables oftener.
+fn settings(random: &mut Random) -> Settings {
+    let mut t = most_settings(random);
+    if random.percent(2) {
+        (t.d, t.e, t.s) = (11, 8, 8);
+    }
+    t
+}
+
+fn most_settings(random: &mut Random) -> Settings {
+    let k = if random.percent(40) { random.pick(&[1, 8]) } else { random.within(1, 8) };
+    let d = match random.below(100) {
+        0..=54 => 4,
+        55..=74 => random.within(5, 6),
+        75..=94 => random.within(7, 10),
+        _ => 11,
+    };
+    let e = match random.below(100) {
+        0..=34 => 0,
+        35..=79 => random.within(1, 3),
+        80..=95 => random.within(4, 7),
+        _ => 8,
+    };
+    let s = if random.percent(45) { random.pick(&[1, 8]) } else { random.within(1, 8) };
+    let [a, b, c] = if random.percent(8) { [0; 3] } else { [(); 3].map(|_| multiplier(random)) };
+    Settings { k, d, e, s, a, b, c }
+}
+
+fn multiplier(random: &mut Random) -> u32 {
+    match random.below(10) {
+        0 | 1 => 0,
+        2 => random.within(1, 4),
+        3 => 1 << random.within(0, 31),
+        4 | 5 => random.word() << random.within(1, 16),
+        6 => random.pick(&[u32::MAX, 1 << 31, 0x9e37_79b1]),
+        _ => random.word(),
+    }
+}
+
+/// The routes that a history is about: prefixes with their lengths, some within others.
+fn pool(random: &mut Random) -> Vec<(u32, u32)> {
+    let few = [random.within(0, 32), random.within(1, 32), random.pick(&[1, 8, 24, 32])];
+    let every = random.percent(50);
+    let narrow = random.percent(35);
+    let many = if random.percent(2) { MOST_ROUTES } else { random.pick(&[3, 8, 20, 60, 200, 1000]) };
+    let mut pool: Vec<(u32, u32)> = Vec::with_capacity(many);
+    for _ in 0..many {
+        let length = if every { random.within(0, 32) } else { random.pick(&few) };
+        let address = if narrow {
+            random.word() & 0xe000_0007
+        } else if !pool.is_empty() && random.percent(60) {
+            let shift = random.within(0, 31);
+            random.pick(&pool).0 ^ random.word() >> shift
+        } else {
+            random.word()
+        };
+        pool.push((rules::prefix(length, address), length));
+    }
+    pool
+}
+
+impl History<'_> {
+    fn run(mut self) -> Result<(), Failure> {
+        let size = self.t.bytes() + 4 * self.t.words();
+        let calls = match self.pool.len() {
+            MOST_ROUTES => 2 * MOST_ROUTES,
+            _ => (40_000_000 / size).clamp(300, 1500),
+        };
+        let damaged_from = match self.random.below(10) {
+            0..=5 => calls,
+            6..=7 => self.random.below(calls),
+            _ => 0,
+        };
+        let mut pair = self.random_memory(Area::Old);
+        if damaged_from > 0 {
+            self.call(&mut pair, Call::Clear)?;
+            pair.routes = Some(Routes::new(self.t, self.manner.slip));
+        }
+        for made in 0..calls {
+            if made == damaged_from {
+                pair.routes = None;
+                self.damage_much(&mut pair);
+            } else if made > damaged_from && self.random.percent(4) {
+                self.damage(&mut pair);
+            }
+            let call = self.random_call(&pair);
+            if self.random.percent(9) {
+                self.spoilt_call(&mut pair, call)?;
+            } else if made > damaged_from && self.random.percent(5) {
+                let t = self.other_settings();
+                let lent = pair.lent(call);
+                self.call_with(&mut pair, &t, lent, call)?;
+            } else {
+                self.call(&mut pair, call)?;
+            }
+            if call.units() == 4 && self.random.below(size) < 64 {
+                let offset = self.random.within(1, 3) as usize;
+                let asked = pair.ask_unaligned(self.library, call, offset);
+                asked.map_err(|difference| self.failure(&self.t, pair.lent(call), call, difference))?;
+            }
+        }
+        if damaged_from == calls {
+            self.rebuild(&mut pair)?;
+        }
+        Ok(())
+    }
+
+    /// A table that holds nothing one could count on.
+    fn random_memory(&mut self, area: Area) -> Pair {
+        let (mut bytes, mut words) = (Random::new(self.random.next(), 0), Random::new(self.random.next(), 1));
+        let counts = self.random.below(4);
+        let marks = self.random.below(3);
+        let byte = move || match counts {
+            0 => bytes.word() as u8,
+            1 => bytes.pick(&COUNTS),
+            2 => 0,
+            _ => 1 + bytes.below(15) as u8,
+        };
+        let word = move || match marks {
+            0 => words.word(),
+            1 => words.pick(&MARKS),
+            _ => 0,
+        };
+        Pair::new(self.library, area, self.t, self.manner.slip, byte, word)
+    }
+
+    fn call(&mut self, pair: &mut Pair, call: Call) -> Result<u64, Failure> {
+        let (t, lent) = (self.t, pair.lent(call));
+        self.call_with(pair, &t, lent, call)
+    }
+
+    fn call_with(&mut self, pair: &mut Pair, t: &Settings, lent: Lent, call: Call) -> Result<u64, Failure> {
+        if self.manner.show {
+            say!("call {}: {}", self.made, told(t, lent, call));
+        }
+        match pair.call(self.library, t, lent, call) {
+            Ok(answer) => {
+                if self.manner.show {
+                    say!("  {}", Answer(call, answer));
+                }
+                self.tally.count(call, answer);
+                self.made += 1;
+                Ok(answer)
+            }
+            Err(difference) => Err(self.failure(t, lent, call, difference)),
+        }
+    }
+
+    fn failure(&self, t: &Settings, lent: Lent, call: Call, difference: Difference) -> Failure {
+        Failure { number: self.made, what: told(t, lent, call), difference: difference.0 }
+    }
+
+    fn random_call(&mut self, pair: &Pair) -> Call {
+        match self.random.below(1000) {
+            0..=2 => Call::Clear,
+            3..=529 => self.random_update(pair),
+            530..=899 => Call::Lookup { address: self.random_address() },
+            _ => Call::Vector { address: self.random_address() },
+        }
+    }
+
+    fn random_update(&mut self, pair: &Pair) -> Call {
+        let hop = match self.random.percent(30) {
+            true => self.random.pick(&HOPS),
+            false => self.random.word() & 0xffff,
+        };
+        if self.random.percent(self.adds) {
+            let (prefix, length) = match self.random.percent(85) {
+                true => self.random.pick(&self.pool),
+                false => {
+                    let length = self.random.within(0, 32);
+                    (rules::prefix(length, self.random.word()), length)
+                }
+            };
+            return Call::Add { prefix, length, hop };
+        }
+        let stored = pair.routes.as_ref().map_or(&[][..], |routes| routes.list());
+        let (prefix, length) = if !stored.is_empty() && self.random.percent(75) {
+            let route = &stored[self.random.below(stored.len())];
+            (route.prefix, route.length)
+        } else {
+            self.random.pick(&self.pool)
+        };
+        if self.random.percent(70) {
+            Call::Withdraw { prefix, length }
+        } else {
+            Call::Change { prefix, length, hop }
+        }
+    }
+
+    fn random_address(&mut self) -> u32 {
+        let (prefix, length) = self.random.pick(&self.pool);
+        match self.random.below(10) {
+            0 => self.random.word(),
+            1 => prefix,
+            2 => prefix ^ 1 << self.random.within(0, 31),
+            _ if length == 32 => prefix,
+            _ => prefix | self.random.word() >> length,
+        }
+    }
+
+    /// A call with something wrong about it; never one that other settings would accept.
+    fn spoilt_call(&mut self, pair: &mut Pair, mut call: Call) -> Result<u64, Failure> {
+        let mut t = self.t;
+        let right = pair.lent(call);
+        let mut lent = right;
+        for _ in 0..self.random.within(1, 3) {
+            match self.random.below(5) {
+                0 => self.spoil_settings(&mut t),
+                1 => lent.counters = self.spoil_size(right.counters),
+                2 => lent.slots = self.spoil_size(right.slots),
+                _ => self.spoil_route(&mut call),
+            }
+        }
+        self.call_with(pair, &t, lent, call)
+    }
+
+    fn spoil_settings(&mut self, t: &mut Settings) {
+        match self.random.below(4) {
+            0 => t.k = self.random.pick(&[0, 9, 257, u32::MAX]),
+            1 => t.d = self.random.pick(&[0, 3, 12, 32, 36, u32::MAX]),
+            2 => t.e = self.random.pick(&[9, 32, 33, 64, u32::MAX]),
+            _ => t.s = self.random.pick(&[0, 9, 256, u32::MAX]),
+        }
+    }
+
+    /// One more and one less above all; never more than there is with its margin.
+    fn spoil_size(&mut self, size: usize) -> usize {
+        match self.random.below(10) {
+            0..=2 => size + 1,
+            3..=5 => size - 1,
+            6 => size + self.random.below(MARGIN),
+            7 => size / self.random.pick(&[2, 4, size]),
+            8 => self.random.below(size),
+            _ => 0,
+        }
+    }
+
+    fn spoil_route(&mut self, call: &mut Call) {
+        let which = self.random.below(3);
+        if let Call::Add { prefix, length, .. }
+        | Call::Withdraw { prefix, length }
+        | Call::Change { prefix, length, .. } = call
+        {
+            match which {
+                0 => *length = self.random.pick(&[33, 32, 64, 256, u32::MAX]).saturating_add(*length % 33),
+                1 => *prefix |= 1 << self.random.within(0, 31u32.saturating_sub(*length)),
+                _ => {}
+            }
+        }
+        if let (2, Call::Add { hop, .. } | Call::Change { hop, .. }) = (which, call) {
+            *hop = self.random.pick(&HIGH_HOPS);
+        }
+    }
+
+    /// Other settings that ask for the same memory. Only damaged tables see them.
+    fn other_settings(&mut self) -> Settings {
+        let mut t = self.t;
+        match self.random.below(4) {
+            0 => t.k = self.random.within(1, 8),
+            1 => t.a = multiplier(&mut self.random),
+            2 => t.c = multiplier(&mut self.random),
+            _ if t.s % 2 == 0 && t.e < 8 => (t.e, t.s) = (t.e + 1, t.s / 2),
+            _ if t.s < 5 && t.e > 0 => (t.e, t.s) = (t.e - 1, t.s * 2),
+            _ => t.b = multiplier(&mut self.random),
+        }
+        t
+    }
+
+    /// Damages about half of the slots and counters that the pool's routes use.
+    fn damage_much(&mut self, pair: &mut Pair) {
+        for _ in 0..2 * self.pool.len() {
+            self.damage(pair);
+        }
+    }
+
+    /// Damages one counter or slot of a route of the pool, or the default.
+    fn damage(&mut self, pair: &mut Pair) {
+        let (prefix, length) = self.random.pick(&self.pool);
+        let mark = match self.random.percent(50) {
+            true => self.random.pick(&MARKS),
+            false => self.random.within(1, 65_536),
+        };
+        if length == 0 || self.random.percent(2) {
+            return pair.damage_word(self.library, self.t.words() - 1, mark);
+        }
+        if self.random.percent(50) {
+            let step = self.random.below(self.t.k as usize);
+            let position = rules::positions(&self.t, prefix).nth(step).expect("one of K");
+            return pair.damage_counter(
+                self.library,
+                self.t.counter(length, position),
+                self.random.pick(&COUNTS),
+            );
+        }
+        let slot = self.t.first_slot(length, prefix) + self.random.below(self.t.s as usize);
+        let held = if self.random.percent(75) { prefix } else { self.random.pick(&self.pool).0 };
+        pair.damage_word(self.library, 2 * slot, held);
+        pair.damage_word(self.library, 2 * slot + 1, mark);
+    }
+
+    /// What is stored at the end goes into a new table, in another order: it is accepted, and the new
+    /// table answers as the old one.
+    fn rebuild(&mut self, old: &mut Pair) -> Result<(), Failure> {
+        let ended = old.compare_sums();
+        ended.map_err(|difference| self.failure(&self.t, old.lent(Call::Clear), Call::Clear, difference))?;
+        let mut routes = old.routes.as_ref().map_or(Vec::new(), |routes| routes.list().to_vec());
+        for i in (1..routes.len()).rev() {
+            routes.swap(i, self.random.below(i + 1));
+        }
+        let mut new = self.random_memory(Area::New);
+        self.call(&mut new, Call::Clear)?;
+        new.routes = Some(Routes::new(self.t, self.manner.slip));
+        for route in routes {
+            let add = Call::Add { prefix: route.prefix, length: route.length, hop: route.hop };
+            let refusal = self.call(&mut new, add)?;
+            self.agree(&new, add, refusal, 0)?;
+        }
+        for _ in 0..8 {
+            let call = Call::Lookup { address: self.random_address() };
+            let (before, after) = (self.call(old, call)?, self.call(&mut new, call)?);
+            self.agree(&new, call, after, before)?;
+        }
+        Ok(())
+    }
+
+    fn agree(&self, pair: &Pair, call: Call, new: u64, old: u64) -> Result<(), Failure> {
+        if new == old {
+            return Ok(());
+        }
+        let (new, old) = (Answer(call, new), Answer(call, old));
+        let difference = Difference(format!("in a rebuilt table: answer {new}, before it {old}"));
+        Err(self.failure(&self.t, pair.lent(call), call, difference))
+    }
+}
+
+/// A call in words.
+pub fn told(t: &Settings, lent: Lent, call: Call) -> String {
+    let Settings { k, d, e, s, a, b, c } = t;
+    let asked = match call {
+        Call::Clear => "clear".to_string(),
+        Call::Add { prefix, length, hop } => format!("add {}/{length} hop {hop}", dotted(prefix)),
+        Call::Withdraw { prefix, length } => format!("withdraw {}/{length}", dotted(prefix)),
+        Call::Change { prefix, length, hop } => format!("change {}/{length} hop {hop}", dotted(prefix)),
+        Call::Vector { address } => format!("match vector of {}", dotted(address)),
+        Call::Lookup { address } => format!("lookup of {}", dotted(address)),
+    };
+    let unit = if call.units() == 4 { "bytes" } else { "words" };
+    format!(
+        "{asked}; K {k}, D {d}, E {e}, S {s}, A {a}, B {b}, C {c}; lent {} counters, {} {unit} of slots",
+        lent.counters, lent.slots
+    )
+}
+
+fn dotted(address: u32) -> String {
+    let [a, b, c, d] = address.to_be_bytes();
+    format!("{a}.{b}.{c}.{d}")
+}

@@ -1,0 +1,167 @@
+//! The calls of libgateway.a. A process beside this one, `host`, is linked with it; the two have mapped
+//! the same memory, so that what the library writes is seen here, and a call that brings that process
+//! down is told as any other difference.
+
+use crate::rules::{Call, Lent, Settings};
+use std::fs::{self, File, OpenOptions};
+use std::io::{self, Read, Write};
+use std::os::fd::AsRawFd;
+use std::path::Path;
+use std::process::{Child, ChildStdin, ChildStdout, Command, Stdio};
+
+/// Bytes before and after the counters, and words before and after the slots, that nothing may touch.
+/// They leave room for a call that is told of more memory than its table has.
+pub const MARGIN: usize = 64;
+
+/// Room for the counters, and for the slots in words, of the largest table.
+const MOST_COUNTERS: usize = 32 * (1 << 11) + 2 * MARGIN;
+const MOST_SLOTS: usize = 64 * (1 << 8) * 8 + 1 + 2 * MARGIN;
+
+/// One table's counters and then its slots.
+const AREA: usize = (MOST_COUNTERS + 4 * MOST_SLOTS).next_multiple_of(4096);
+const AREAS: usize = 3;
+
+/// Where a table lies in the memory that is lent: an old table, one that is built beside it, or a copy
+/// whose slots do not begin at a word's address.
+#[derive(Clone, Copy, PartialEq, Eq)]
+pub enum Area {
+    Old,
+    New,
+    Unaligned,
+}
+
+pub struct Library {
+    host: Child,
+    requests: Option<ChildStdin>,
+    answers: ChildStdout,
+    memory: *mut u8,
+    /// The host has ended, so that no call is compared any more.
+    pub ended: bool,
+}
+
+extern "C" {
+    fn mmap(at: *mut u8, size: usize, access: i32, kind: i32, file: i32, start: i64) -> *mut u8;
+}
+
+/// Maps a file of this size, to be read and written by whoever maps it.
+fn map(file: &File, size: usize) -> io::Result<*mut u8> {
+    const READ_AND_WRITE: i32 = 3;
+    const SHARED: i32 = 1;
+    let memory = unsafe { mmap(std::ptr::null_mut(), size, READ_AND_WRITE, SHARED, file.as_raw_fd(), 0) };
+    if memory.addr() == usize::MAX {
+        return Err(io::Error::last_os_error());
+    }
+    Ok(memory)
+}
+
+impl Library {
+    /// Starts the process that has the library.
+    pub fn start(host: &Path) -> io::Result<Library> {
+        let path = std::env::temp_dir().join(format!("second-{}", std::process::id()));
+        let file = OpenOptions::new().read(true).write(true).create_new(true).open(&path)?;
+        let started = Library::start_on(host, &path, &file);
+        fs::remove_file(&path)?;
+        started
+    }
+
+    fn start_on(host: &Path, path: &Path, file: &File) -> io::Result<Library> {
+        let size = AREAS * AREA;
+        file.set_len(size as u64)?;
+        let memory = map(file, size)?;
+        let mut host = Command::new(host)
+            .arg(path)
+            .arg(size.to_string())
+            .stdin(Stdio::piped())
+            .stdout(Stdio::piped())
+            .spawn()?;
+        let missing = || io::Error::other("the host has no pipe");
+        let requests = host.stdin.take().ok_or_else(missing)?;
+        let answers = host.stdout.take().ok_or_else(missing)?;
+        let mut library = Library { host, requests: Some(requests), answers, memory, ended: false };
+        // The first answer shows that the host has mapped the file, whose name can then go.
+        let out_of_range = Settings { k: 0, d: 0, e: 0, s: 0, a: 0, b: 0, c: 0 };
+        let refused = library.call(Area::Old, &out_of_range, Lent { counters: 0, slots: 0 }, Call::Clear)?;
+        if refused != 1 << 48 {
+            return Err(io::Error::other(format!("a call with K = 0 was answered with {refused:#x}")));
+        }
+        Ok(library)
+    }
+
+    /// So many bytes of an area's counters, from its first margin on.
+    pub fn counters(&mut self, area: Area, size: usize) -> &mut [u8] {
+        assert!(size <= MOST_COUNTERS);
+        // Safe: the host writes only while a call is under way, and no such slice outlives one.
+        unsafe { std::slice::from_raw_parts_mut(self.memory.add(area as usize * AREA), size) }
+    }
+
+    /// So many words of an area's slots, from its first margin on.
+    pub fn slots(&mut self, area: Area, size: usize) -> &mut [u32] {
+        assert!(size <= MOST_SLOTS);
+        // Safe: as above, and each area and its counters fill whole words.
+        unsafe {
+            let start = self.memory.add(area as usize * AREA + MOST_COUNTERS);
+            std::slice::from_raw_parts_mut(start.cast(), size)
+        }
+    }
+
+    /// So many bytes of an area's slots, from its first margin on.
+    pub fn slot_bytes(&mut self, area: Area, size: usize) -> &mut [u8] {
+        let words = self.slots(area, size.div_ceil(4));
+        // Safe: these are the bytes of the words.
+        unsafe { std::slice::from_raw_parts_mut(words.as_mut_ptr().cast(), size) }
+    }
+
+    /// Does a call in the library, on what is lent of an area after its margins.
+    pub fn call(&mut self, area: Area, t: &Settings, lent: Lent, call: Call) -> io::Result<u64> {
+        self.call_at(area, 0, t, lent, call)
+    }
+
+    /// Does a call on slots that begin so many bytes after their place.
+    pub fn call_at(
+        &mut self,
+        area: Area,
+        offset: usize,
+        t: &Settings,
+        lent: Lent,
+        call: Call,
+    ) -> io::Result<u64> {
+        assert!(lent.counters + MARGIN <= MOST_COUNTERS);
+        assert!(lent.slots.div_ceil(call.units()) + MARGIN <= MOST_SLOTS);
+        let (number, asked, length, hop) = match call {
+            Call::Clear => (0, 0, 0, 0),
+            Call::Add { prefix, length, hop } => (1, prefix, length, hop),
+            Call::Withdraw { prefix, length } => (2, prefix, length, 0),
+            Call::Change { prefix, length, hop } => (3, prefix, length, hop),
+            Call::Vector { address } => (4, address, 0, 0),
+            Call::Lookup { address } => (5, address, 0, 0),
+        };
+        let counters = area as usize * AREA + MARGIN;
+        let slots = area as usize * AREA + MOST_COUNTERS + 4 * MARGIN + offset;
+        let settings = [t.k, t.d, t.e, t.s, t.a, t.b, t.c].map(u64::from);
+        let memory = [counters, lent.counters, slots, lent.slots].map(|n| n as u64);
+        let beside = [asked, length, hop, 0].map(u64::from);
+        let mut request = [0; 128];
+        let numbers = [number].into_iter().chain(settings).chain(memory).chain(beside);
+        for (bytes, number) in request.chunks_exact_mut(8).zip(numbers) {
+            bytes.copy_from_slice(&number.to_ne_bytes());
+        }
+        let mut answer = [0; 8];
+        let requests = self.requests.as_mut().ok_or(io::ErrorKind::BrokenPipe)?;
+        requests.write_all(&request).and_then(|()| self.answers.read_exact(&mut answer)).map_err(
+            |error| {
+                self.ended = true;
+                let ended = self.host.wait().map_or(String::new(), |status| format!(" ({status})"));
+                io::Error::new(error.kind(), format!("the library's process ended in this call{ended}"))
+            },
+        )?;
+        Ok(u64::from_ne_bytes(answer))
+    }
+}
+
+impl Drop for Library {
+    /// The host ends when there are no more requests.
+    fn drop(&mut self) {
+        self.requests = None;
+        let _ = self.host.wait();
+    }
+}

@@ -1,0 +1,280 @@
+//! The second program: the table's rules written again, from docs/TABLE.md, and held
+//! against libgateway.a call by call; and a reader of its own for the lines of the text program. It
+//! shares no code with either.
+
+/// Writes a line to standard output. If nobody reads it any more, there is no more to do.
+macro_rules! say {
+    ($($text:tt)*) => {
+        if std::io::Write::write_fmt(&mut std::io::stdout(), format_args!("{}\n", format_args!($($text)*))).is_err() {
+            std::process::exit(1);
+        }
+    };
+}
+
+mod history;
+mod inputs;
+mod library;
+mod line_slips;
+mod lines;
+mod pair;
+mod program;
+mod random;
+mod random_lines;
+mod routes;
+mod rules;
+mod slips;
+mod tally;
+mod text;
+mod worked;
+
+use history::Manner;
+use library::Library;
+use slips::SLIPS;
+use std::io;
+use std::process::ExitCode;
+use std::time::{Duration, Instant, SystemTime, UNIX_EPOCH};
+use tally::Tally;
+use text::Text;
+
+const USAGE: &str = "\
+usage: second [--seed N] [--calls N | --seconds N]   random histories, 500000 calls unless told
+       second --seed N --history M [--show]          one history again; --show tells each call
+       second --slips [--seed N]                     gets one rule wrong at a time: each must be found
+       second --lines [--seed N] [--count N]         random lines to the text program, 6000 unless told
+       second --lines --seed N --history M [--show]  one input of them again; --show tells each line
+       second --lines --slips [--seed N]             as above, with the rules of the reader of lines
+       second --answer                               answers standard input as the text program does
+       second --mix N [--seed N]                     writes so many lines for it, most of them readable
+
+After --lines, '-- COMMAND [WORD..]' names what starts the text program; it is tests/start with
+target/bin/routes unless told.";
+
+/// How many lines are compared unless told.
+const LINES: u64 = 6000;
+
+/// From so many calls on, a run must have met every refusal.
+const MANY_CALLS: u64 = 100_000;
+
+/// A slip that so many histories do not show is not found.
+const HISTORIES_TO_A_SLIP: u64 = 2_000;
+
+const BETWEEN_PROGRESS: Duration = Duration::from_secs(5);
+
+#[derive(Default)]
+struct Options {
+    seed: Option<u64>,
+    calls: Option<u64>,
+    seconds: Option<u64>,
+    history: Option<u64>,
+    count: Option<u64>,
+    mix: Option<u64>,
+    show: bool,
+    slips: bool,
+    lines: bool,
+    answer: bool,
+    command: Option<Vec<String>>,
+}
+
+fn options() -> Result<Options, String> {
+    let mut options = Options::default();
+    let mut words = std::env::args().skip(1);
+    while let Some(word) = words.next() {
+        let into = match word.as_str() {
+            "--seed" => &mut options.seed,
+            "--calls" => &mut options.calls,
+            "--seconds" => &mut options.seconds,
+            "--history" => &mut options.history,
+            "--count" => &mut options.count,
+            "--mix" => &mut options.mix,
+            "--show" | "--slips" | "--lines" | "--answer" => {
+                match word.as_str() {
+                    "--show" => options.show = true,
+                    "--slips" => options.slips = true,
+                    "--lines" => options.lines = true,
+                    _ => options.answer = true,
+                }
+                continue;
+            }
+            "--" => {
+                options.command = Some(words.by_ref().collect());
+                continue;
+            }
+            "--help" | "-h" => {
+                say!("{USAGE}");
+                std::process::exit(0);
+            }
+            _ => return Err(format!("unknown word '{word}'")),
+        };
+        let value = words.next().ok_or(format!("{word} needs a number"))?;
+        *into = Some(value.parse().map_err(|_| format!("{word}: not a number: '{value}'"))?);
+    }
+    Ok(options)
+}
+
+fn main() -> ExitCode {
+    let options = match options() {
+        Ok(options) => options,
+        Err(error) => {
+            eprintln!("second: {error}\n{USAGE}");
+            return ExitCode::from(2);
+        }
+    };
+    let seed = options.seed.unwrap_or_else(clock);
+    let passed = if options.answer {
+        done(text::answer())
+    } else if let Some(count) = options.mix {
+        done(text::mix(seed, count))
+    } else if options.lines {
+        compare_lines(seed, options)
+    } else {
+        compare_calls(seed, options)
+    };
+    if passed {
+        ExitCode::SUCCESS
+    } else {
+        ExitCode::FAILURE
+    }
+}
+
+/// Says what went wrong. If nobody reads what is written any more, there is no more to do.
+fn done(result: io::Result<()>) -> bool {
+    match result {
+        Err(error) if error.kind() != io::ErrorKind::BrokenPipe => {
+            eprintln!("second: {error}");
+            false
+        }
+        _ => true,
+    }
+}
+
+fn compare_lines(seed: u64, options: Options) -> bool {
+    let text = Text { seed, command: options.command };
+    match (options.slips, options.history) {
+        (true, _) => text.find_slips(),
+        (_, Some(number)) => text.again(number, options.show),
+        _ => text.compare(options.count.unwrap_or(LINES)),
+    }
+}
+
+fn compare_calls(seed: u64, options: Options) -> bool {
+    let mut library = match start() {
+        Ok(library) => library,
+        Err(error) => {
+            eprintln!("second: the library's process does not start: {error}; build it by 'make second'");
+            return false;
+        }
+    };
+    match (options.slips, options.history) {
+        (true, _) => find_slips(&mut library, seed),
+        (_, Some(history)) => replay(&mut library, seed, history, options.show),
+        _ => compare(&mut library, seed, options.calls, options.seconds),
+    }
+}
+
+fn clock() -> u64 {
+    let now = SystemTime::now().duration_since(UNIX_EPOCH);
+    now.map_or(1, |since| since.as_micros() as u64)
+}
+
+/// The program `host` stands beside this one.
+fn start() -> io::Result<Library> {
+    Library::start(&std::env::current_exe()?.with_file_name("host"))
+}
+
+/// Runs one history, and says how it went.
+fn holds(library: &mut Library, seed: u64, history: u64, show: bool, tally: &mut Tally) -> bool {
+    let _replay = Replay { seed, history };
+    let Err(failure) = history::run(library, seed, history, Manner { slip: None, show }, tally) else {
+        return true;
+    };
+    say!("second: DIFFERENCE under seed {seed} in history {history}, {failure}");
+    say!("{}", replay_command(seed, history));
+    false
+}
+
+fn replay_command(seed: u64, history: u64) -> String {
+    let program = std::env::args().next().unwrap_or("second".to_string());
+    format!("replay: {program} --show --seed {seed} --history {history}")
+}
+
+/// Says which history ran when this program itself panics.
+struct Replay {
+    seed: u64,
+    history: u64,
+}
+
+impl Drop for Replay {
+    fn drop(&mut self) {
+        if std::thread::panicking() {
+            eprintln!("{}", replay_command(self.seed, self.history));
+        }
+    }
+}
+
+fn replay(library: &mut Library, seed: u64, history: u64, show: bool) -> bool {
+    let mut tally = Tally::default();
+    let held = holds(library, seed, history, show, &mut tally);
+    if held {
+        say!("seed {seed}, history {history}: {} calls, no difference", tally.calls());
+    }
+    held
+}
+
+/// Runs histories until there were so many calls, or so many seconds have passed.
+fn compare(library: &mut Library, seed: u64, calls: Option<u64>, seconds: Option<u64>) -> bool {
+    let calls = calls.unwrap_or(if seconds.is_some() { u64::MAX } else { 500_000 });
+    let seconds = Duration::from_secs(seconds.unwrap_or(u64::MAX));
+    let start = Instant::now();
+    let mut told = start;
+    let mut tally = Tally::default();
+    say!("seed {seed}");
+    if let Err(failure) = worked::run(library) {
+        say!("second: DIFFERENCE in a worked case, {failure}");
+        return false;
+    }
+    while tally.calls() < calls && start.elapsed() < seconds {
+        if !holds(library, seed, tally.histories, false, &mut tally) {
+            return false;
+        }
+        if told.elapsed() >= BETWEEN_PROGRESS {
+            told = Instant::now();
+            let passed = start.elapsed().as_secs();
+            eprintln!("{} calls in {} histories, {passed} s, no difference", tally.calls(), tally.histories);
+        }
+    }
+    let passed = start.elapsed().as_secs_f64();
+    say!("{} calls in {} histories, {passed:.1} s, no difference", tally.calls(), tally.histories);
+    say!("{tally}");
+    match tally.missing() {
+        Some(missing) if tally.calls() >= MANY_CALLS => {
+            say!("second: too narrow a run: {missing}");
+            false
+        }
+        _ => true,
+    }
+}
+
+/// Gets one of this program's own rules wrong at a time. Each time a difference must be found.
+fn find_slips(library: &mut Library, seed: u64) -> bool {
+    let mut missed = 0;
+    say!("seed {seed}");
+    for (slip, told) in SLIPS {
+        let mut tally = Tally::default();
+        let manner = Manner { slip: Some(slip), show: false };
+        let found = (0..HISTORIES_TO_A_SLIP)
+            .find(|history| history::run(library, seed, *history, manner, &mut tally).is_err());
+        match found {
+            Some(history) => say!("found in history {history}, after {} calls: {told}", tally.calls()),
+            None => {
+                say!("second: NOT FOUND in {} calls: {told}", tally.calls());
+                missed += 1;
+            }
+        }
+    }
+    if library.ended {
+        say!("second: the library's process ended, which is no slip of this program");
+        return false;
+    }
+    say!("{} of {} slips found", SLIPS.len() - missed, SLIPS.len());
+    missed == 0
+}

@@ -1,0 +1,148 @@
+//! The worked cases of docs/TABLE.md, with the answers that it states: they hold both the library and this
+//! program's own rules.
+
+use crate::history::told;
+use crate::library::{Area, Library};
+use crate::pair::{Answer, Pair};
+use crate::routes::Routes;
+use crate::rules::{bucket, positions, Call, Lent, Settings, T};
+
+fn address(a: u8, b: u8, c: u8, d: u8) -> u32 {
+    u32::from_be_bytes([a, b, c, d])
+}
+
+fn refused(number: u64) -> u64 {
+    number << 48
+}
+
+fn found(hop: u64, length: u64, probes: u64) -> u64 {
+    (1 << 40) + (hop << 16) + (length << 8) + probes
+}
+
+/// One case: a table that begins cleared.
+struct Case<'a> {
+    name: &'static str,
+    t: Settings,
+    library: &'a mut Library,
+    pair: Pair,
+}
+
+impl<'a> Case<'a> {
+    fn new(library: &'a mut Library, name: &'static str, t: Settings) -> Result<Case<'a>, String> {
+        let pair = Pair::new(library, Area::Old, t, None, || 7, || 7);
+        let mut case = Case { name, t, library, pair };
+        case.gives(Call::Clear, 0)?;
+        case.pair.routes = Some(Routes::new(t, None));
+        Ok(case)
+    }
+
+    /// A call gives an answer.
+    fn gives(&mut self, call: Call, answer: u64) -> Result<(), String> {
+        self.gives_lent(self.pair.lent(call), call, answer)
+    }
+
+    fn gives_lent(&mut self, lent: Lent, call: Call, answer: u64) -> Result<(), String> {
+        let told = |what: String| format!("{}: {}\n  {what}", self.name, told(&self.t, lent, call));
+        match self.pair.call(self.library, &self.t, lent, call) {
+            Err(difference) => Err(told(difference.0)),
+            Ok(given) if given != answer => {
+                let (given, answer) = (Answer(call, given), Answer(call, answer));
+                Err(told(format!("answer: {given}, in the document {answer}")))
+            }
+            Ok(_) => Ok(()),
+        }
+    }
+
+    fn add(&mut self, prefix: u32, length: u32, hop: u32, refusal: u64) -> Result<(), String> {
+        self.gives(Call::Add { prefix, length, hop }, refused(refusal))
+    }
+
+    fn lookup(&mut self, address: u32, answer: u64) -> Result<(), String> {
+        self.gives(Call::Lookup { address }, answer)
+    }
+
+    fn vector(&mut self, address: u32, vector: u64) -> Result<(), String> {
+        self.gives(Call::Vector { address }, vector)
+    }
+
+    fn holds(&self, right: bool, what: &str) -> Result<(), String> {
+        if right {
+            Ok(())
+        } else {
+            Err(format!("{}: not so: {what}", self.name))
+        }
+    }
+
+    fn hashes(&self, p: u32, at: [usize; 2], home: usize) -> Result<(), String> {
+        self.holds(positions(&self.t, p).eq(at) && bucket(&self.t, p) == home, "positions and bucket")
+    }
+}
+
+pub fn run(library: &mut Library) -> Result<(), String> {
+    let ten = address(10, 0, 0, 0);
+
+    let case = Case::new(library, "P1 and P2", T)?;
+    case.hashes(ten, [0, 1], 0)?;
+    case.hashes(address(192, 0, 0, 0), [12, 4], 1)?;
+
+    let mut case = Case::new(library, "P3", T)?;
+    case.hashes(0, [0, 0], 0)?;
+    case.add(0, 8, 0, 0)?;
+    case.holds(case.pair.counter(T.counter(8, 0)) == 2, "the add raises the counter by 2")?;
+
+    let mut case = Case::new(library, "P4 to P7", T)?;
+    case.add(ten, 8, 7, 0)?;
+    case.lookup(address(8, 1, 2, 3), 1)?;
+    case.vector(address(8, 1, 2, 3), 128)?;
+    case.add(address(10, 1, 0, 0), 16, 9, 0)?;
+    case.lookup(address(10, 1, 2, 3), found(9, 16, 1))?;
+    case.lookup(address(10, 2, 2, 3), found(7, 8, 2))?;
+    case.vector(address(10, 2, 2, 3), 32_896)?;
+    case.lookup(address(11, 0, 0, 1), 0)?;
+    case.add(0, 0, 3, 0)?;
+    case.lookup(address(11, 0, 0, 1), found(3, 0, 0))?;
+
+    let mut case = Case::new(library, "P8", T)?;
+    let (eight, nine) = (address(8, 0, 0, 0), address(9, 0, 0, 0));
+    case.add(ten, 8, 7, 0)?;
+    case.add(eight, 8, 7, 0)?;
+    case.add(nine, 8, 7, 8)?;
+    case.gives(Call::Withdraw { prefix: eight, length: 8 }, 0)?;
+    case.lookup(ten, found(7, 8, 1))?;
+    case.add(nine, 8, 7, 0)?;
+    case.holds(case.pair.word(2 * (T.first_slot(8, nine) + 1)) == nine, "9/8 lies in slot 1")?;
+
+    let zero = Settings { k: 5, d: 4, e: 0, s: 4, a: 0, b: 0, c: 0 };
+    let mut case = Case::new(library, "P9", zero)?;
+    for prefix in 1..=3 {
+        case.add(prefix, 32, 7, 0)?;
+    }
+    case.holds(case.pair.counter(zero.counter(32, 0)) == 15, "the counter is 15")?;
+    case.add(4, 32, 7, 9)?;
+
+    for (s, refusal) in [(2, 9), (1, 8)] {
+        let mut case = Case::new(library, "P10", Settings { k: 8, s, ..zero })?;
+        case.add(1, 32, 7, 0)?;
+        case.add(2, 32, 7, refusal)?;
+    }
+
+    let mut case = Case::new(library, "the cases to run", T)?;
+    let host = address(10, 0, 0, 1);
+    case.add(ten, 32, 7, 0)?;
+    case.add(ten, 33, 7, 3)?;
+    case.add(host, 33, 7, 3)?;
+    case.add(host, 8, 7, 4)?;
+    case.add(host, 32, 7, 0)?;
+    case.add(1, 0, 7, 4)?;
+    case.add(ten, 8, 65_536, 5)?;
+    case.add(ten, 8, 65_535, 0)?;
+    for call in [Call::Clear, Call::Vector { address: ten }, Call::Lookup { address: ten }] {
+        let Lent { counters, slots } = case.pair.lent(call);
+        for (counters, slots) in
+            [(counters + 1, slots), (counters - 1, slots), (counters, slots + 1), (counters, slots - 1)]
+        {
+            case.gives_lent(Lent { counters, slots }, call, refused(2))?;
+        }
+    }
+    Ok(())
+}
