@@ -19,6 +19,7 @@ last-digits (suc many) n = cond (ltb n 10) ((code "0" + n) ∷ []) (last-digits 
 unfoldable pub decimal : (n : ℕ) → List ℕ
 decimal n = last-digits (suc n) n
 
+-- an update that is refused, with its number
 unfoldable pub refused : (number : ℕ) → List ℕ
 refused number = spelled "refused " ++ decimal number ++ spelled "\n"
 

@@ -4,8 +4,9 @@
 use libc::STDOUT_FILENO;
 use rules::Settings;
 
-// What a case calls. Its three arguments are prefix, length and hop as the call has them; for FIND
-// and VECTOR the address comes first, for COUNTER and WORD a place in the lent memory.
+// A case is four numbers in one, in hex: what it calls, a prefix, a length and a hop, as the call has
+// them. For FIND and VECTOR the address stands in the prefix's place, for COUNTER and WORD a place in
+// the lent memory.
 const CLEAR: u32 = 0;
 
 const ADD: u32 = 1;
@@ -23,179 +24,56 @@ const COUNTER: u32 = 6;
 const WORD: u32 = 7;
 
 // P3 to P8, then the limits of lengths, host bits, hops and what is stored, with settings T.
-const SMALL: [u32; 140] = [
-    CLEAR,
-    0,
-    0,
-    0,
-    ADD,
-    0,
-    8,
-    7,
-    COUNTER,
-    112,
-    0,
-    0,
-    WITHDRAW,
-    0,
-    8,
-    0,
-    ADD,
-    0x0a00_0000,
-    8,
-    7,
-    FIND,
-    0x0801_0203,
-    0,
-    0,
-    VECTOR,
-    0x0801_0203,
-    0,
-    0,
-    ADD,
-    0x0a01_0000,
-    16,
-    9,
-    FIND,
-    0x0a01_0203,
-    0,
-    0,
-    FIND,
-    0x0a02_0203,
-    0,
-    0,
-    VECTOR,
-    0x0a02_0203,
-    0,
-    0,
-    FIND,
-    0x0b00_0001,
-    0,
-    0,
-    ADD,
-    0,
-    0,
-    3,
-    FIND,
-    0x0b00_0001,
-    0,
-    0,
-    CLEAR,
-    0,
-    0,
-    0,
-    ADD,
-    0x0a00_0000,
-    8,
-    7,
-    ADD,
-    0x0800_0000,
-    8,
-    5,
-    ADD,
-    0x0900_0000,
-    8,
-    6,
-    WITHDRAW,
-    0x0800_0000,
-    8,
-    0,
-    FIND,
-    0x0a02_0203,
-    0,
-    0,
-    ADD,
-    0x0900_0000,
-    8,
-    6,
-    WORD,
-    58,
-    0,
-    0,
-    CLEAR,
-    0,
-    0,
-    0,
-    ADD,
-    0x0a00_0001,
-    32,
-    7,
-    ADD,
-    0x0a00_0000,
-    33,
-    7,
-    ADD,
-    0x0a00_0001,
-    33,
-    7,
-    ADD,
-    0x0a00_0001,
-    8,
-    7,
-    ADD,
-    1,
-    0,
-    7,
-    ADD,
-    0x0a00_0000,
-    8,
-    65535,
-    ADD,
-    0x0c00_0000,
-    8,
-    65536,
-    ADD,
-    0x0a00_0000,
-    8,
-    7,
-    CHANGE,
-    0x0b00_0000,
-    8,
-    7,
-    CHANGE,
-    0x0a00_0000,
-    8,
-    4,
-    FIND,
-    0x0a09_0909,
-    0,
-    0,
-    WITHDRAW,
-    0x0b00_0000,
-    8,
-    0,
+const SMALL: [u64; 35] = [
+    0x0_00000000_00_00000,
+    0x1_00000000_08_00007,
+    0x6_00000070_00_00000,
+    0x2_00000000_08_00000,
+    0x1_0a000000_08_00007,
+    0x4_08010203_00_00000,
+    0x5_08010203_00_00000,
+    0x1_0a010000_10_00009,
+    0x4_0a010203_00_00000,
+    0x4_0a020203_00_00000,
+    0x5_0a020203_00_00000,
+    0x4_0b000001_00_00000,
+    0x1_00000000_00_00003,
+    0x4_0b000001_00_00000,
+    0x0_00000000_00_00000,
+    0x1_0a000000_08_00007,
+    0x1_08000000_08_00005,
+    0x1_09000000_08_00006,
+    0x2_08000000_08_00000,
+    0x4_0a020203_00_00000,
+    0x1_09000000_08_00006,
+    0x7_0000003a_00_00000,
+    0x0_00000000_00_00000,
+    0x1_0a000001_20_00007,
+    0x1_0a000000_21_00007,
+    0x1_0a000001_21_00007,
+    0x1_0a000001_08_00007,
+    0x1_00000001_00_00007,
+    0x1_0a000000_08_0ffff,
+    0x1_0c000000_08_10000,
+    0x1_0a000000_08_00007,
+    0x3_0b000000_08_00007,
+    0x3_0a000000_08_00004,
+    0x4_0a090909_00_00000,
+    0x2_0b000000_08_00000,
 ];
 
 // P9, and with other settings P10: routes of length 32.
-const HOSTS: [u32; 24] = [
-    CLEAR,
-    0,
-    0,
-    0,
-    ADD,
-    1,
-    32,
-    1,
-    ADD,
-    2,
-    32,
-    1,
-    ADD,
-    3,
-    32,
-    1,
-    COUNTER,
-    496,
-    0,
-    0,
-    ADD,
-    4,
-    32,
-    1,
+const HOSTS: [u64; 6] = [
+    0x0_00000000_00_00000,
+    0x1_00000001_20_00001,
+    0x1_00000002_20_00001,
+    0x1_00000003_20_00001,
+    0x6_000001f0_00_00000,
+    0x1_00000004_20_00001,
 ];
 
 // What a clear says to memory of the wrong size.
-const CLEARED: [u32; 4] = [CLEAR, 0, 0, 0];
+const CLEARED: [u64; 1] = [0x0_00000000_00_00000];
 
 fn number(n: u32) {
     io::write_all(STDOUT_FILENO, b" ");
@@ -293,20 +171,16 @@ fn case(
     end();
 }
 
-// The cases of a list, four numbers each.
-fn run(t: Settings, cases: &[u32], counters: &mut [u8], slots: &mut [u32]) {
+// The cases of a list.
+fn run(t: Settings, cases: &[u64], counters: &mut [u8], slots: &mut [u32]) {
     let mut i = 0;
-    while i < cases.len() / 4 {
-        let at = 4 * i;
-        case(
-            t,
-            counters,
-            slots,
-            cases[at],
-            cases[at + 1],
-            cases[at + 2],
-            cases[at + 3],
-        );
+    while i < cases.len() {
+        let x = cases[i];
+        let what = (x / 0x1000_0000_0000_0000 % 0x10) as u32;
+        let p = (x / 0x1000_0000 % 0x1_0000_0000) as u32;
+        let length = (x / 0x10_0000 % 0x100) as u32;
+        let hop = (x % 0x10_0000) as u32;
+        case(t, counters, slots, what, p, length, hop);
         i += 1;
     }
 }

@@ -1,7 +1,8 @@
--- What a user of a stream may rely on, the sample, and the laws of replies and of streams that the proofs cite.
+-- What a user of a stream may rely on, the sample, and the laws of rooms, replies and streams that the proofs cite.
 pub mod Cuts
 pub mod Owed
 pub mod Replies
+pub mod Rooms
 pub mod Sample
 pub mod Settled
 pub mod Streams

@@ -1,16 +1,17 @@
 -- What the text program answers: to a line, to the lines of an input, and to a stream that comes in chunks.
 use Prim.Native.Nat.{ℕ, _+_, _*_, _≤_}
 use mathlib.Core.Path.{_≡_}
-use mathlib.Core.Bool.{cond}
+use mathlib.Core.Bool.{Bool, false, cond, not, _&&_}
 use mathlib.Core.List.{List, [], _∷_, _++_}
 use lib.ListN.{length, take, set}
-use lib.Dec.{ltb, eqb}
+use lib.Dec.{ltb, leb, eqb}
 use Rattle.rules.specs.declared.Settings.{Settings}
 use Rattle.rules.specs.Table.{Memory, Update, add, withdraw, change, lookup}
 use Rattle.requests.specs.declared.Request.{Request}
 use Rattle.requests.specs.declared.Request.the-variants.{Add, Drop, Move, Find, Unreadable}
 use Rattle.requests.specs.Shapes.{request}
 use Rattle.answers.specs.Texts.{outcome, found, unreadable, Put, PutWithin}
+use Rattle.lines.specs.declared.Next.{Next}
 use Rattle.lines.specs.declared.Fed.{Fed}
 
 -- ---- One line
@@ -32,6 +33,7 @@ reply t m (Move p L hop) = updated (change t m p L hop)
 reply t m (Find address) = record { text = found (lookup t m address); memory = m }
 reply t m Unreadable = record { text = unreadable; memory = m }
 
+-- what is answered to a line of any bytes
 unfoldable pub answer : Settings → Memory → (line : List ℕ) → Reply
 answer t m line = reply t m (request line)
 
@@ -43,6 +45,7 @@ unfoldable pub lines-after : (begun input : List ℕ) → List (List ℕ)
 lines-after begun [] = cond (eqb (length begun) 0) [] (begun ∷ [])
 lines-after begun (b ∷ input) = cond (eqb b 10) (begun ∷ lines-after [] input) (lines-after (begun ++ b ∷ []) input)
 
+-- the lines of a whole input
 unfoldable pub lines : (input : List ℕ) → List (List ℕ)
 lines input = lines-after [] input
 
@@ -103,24 +106,62 @@ unfoldable pub joined : (chunks : List (List ℕ)) → List ℕ
 joined [] = []
 joined (chunk ∷ chunks) = chunk ++ joined chunks
 
+-- ---- The calls, which are refused for want of room
+
+-- what a call comes to: whether it is refused, and what it leaves
+pub record Tried (A : Type 0) : Type 0 where
+  pub refused : Bool
+  pub leaves : A
+
+abbrev pub accepted : {A : Type 0} → A → Tried A
+accepted made = record { refused = false; leaves = made }
+
+-- with room a call leaves what it makes; with none it is refused and leaves what was there
+abbrev pub if-room : {A : Type 0} → (room : Bool) (made there : A) → Tried A
+if-room room made there = record { refused = not room; leaves = cond room made there }
+
+-- room for an answer, which is at most 33 bytes, at a position
+unfoldable pub fits : (at : ℕ) (out : List ℕ) → Bool
+fits at out = leb (at + 33) (length out)
+
+-- room for an unfinished line, no more of which is kept than 65 bytes, and for the answers to so many lines
+unfoldable pub roomy : (line : List ℕ) (kept ends : ℕ) (out : List ℕ) → Bool
+roomy line kept ends out = leb 65 (length line) && (leb kept 65 && leb (ends * 33) (length out))
+
+-- a line that is refused writes nothing and leaves the memory as it is
+unfoldable pub answer-line : Settings → Memory → (line : List ℕ) (at : ℕ) (out : List ℕ) → Tried Reply
+answer-line t m line at out = if-room (fits at out) (answer t m line) (record { text = []; memory = m })
+
+-- each byte of a chunk may end a line
+unfoldable pub feed-chunk : Settings → Stream → (chunk out : List ℕ) → Tried Stream
+feed-chunk t s chunk out = if-room (roomy (s .line) (s .count) (length chunk) out) (feed t s chunk) s
+
+unfoldable pub finish-input : Settings → Stream → (out : List ℕ) → Tried Stream
+finish-input t s out = if-room (roomy (s .line) (s .count) 1 out) (finish t s) s
+
 -- ---- What the calls leave in lent memory
 
--- a reply is put at a position, with room for 33 bytes, and the memory is left as it says
+-- a reply of at most 33 bytes is put at a position, and the memory is left as it says
 pub record Answered (r : Reply) (memory : Memory) (before : List ℕ) (at : ℕ) (after : List ℕ) (next : ℕ) : Type 0 where
   pub memory-is : memory ≡ r .memory
   pub put : PutWithin 33 before at (r .text) after next
 
--- what feeding asks of lent memory: 65 bytes for the line, and 33 bytes for each one that may end a line
-pub record Room (line : List ℕ) (kept : ℕ) (chunk out : List ℕ) : Type 0 where
+-- what answering a line gives back and leaves
+pub record Told (x : Tried Reply) (memory : Memory) (before : List ℕ) (at : ℕ) (after : List ℕ) (next : Next) : Type 0 where
+  pub refused-is : next .refused ≡ x .refused
+  pub answered : Answered (x .leaves) memory before at after (next .at)
+
+-- what `roomy` tests
+pub record Room (line : List ℕ) (kept ends : ℕ) (out : List ℕ) : Type 0 where
   pub line-room : 65 ≤ length line
   pub kept-in : kept ≤ 65
-  pub out-room : length chunk * 33 ≤ length out
+  pub out-room : ends * 33 ≤ length out
 
--- a stream as it lies in lent memory, with the answers to so many bytes at the front of out
-pub record Lies (s : Stream) (bytes : ℕ) (memory : Memory) (line before after : List ℕ) (r : Fed) : Type 0 where
-  pub memory-is : memory ≡ s .memory
-  pub line-is : line ≡ s .line
-  pub count-is : r .count ≡ s .count
-  pub kept-in : r .count ≤ 65
-  pub put : Put before 0 (s .text) after (r .written)
-  pub short : r .written ≤ bytes * 33
+-- what a call on a stream gives back and leaves: the stream lies in lent memory, with its answers at the front of out
+pub record Lies (x : Tried Stream) (memory : Memory) (line before after : List ℕ) (r : Fed) : Type 0 where
+  pub refused-is : r .refused ≡ x .refused
+  pub memory-is : memory ≡ x .leaves .memory
+  pub line-is : line ≡ x .leaves .line
+  pub count-is : r .count ≡ x .leaves .count
+  pub put : Put before 0 (x .leaves .text) after (r .written)
+  pub inside : r .written ≤ length before

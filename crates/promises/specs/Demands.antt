@@ -104,9 +104,11 @@ add-number t routes p L hop =
     (refuse (exists (about p L) routes) 6
     (refuse (from-1 L (crowded t routes L p)) 8 (refuse (from-1 L (overflows t routes L p)) 9 0)))))
 
+-- those of a withdrawal
 unfoldable pub withdraw-number : List Route → (p L : ℕ) → ℕ
 withdraw-number routes p L = refuse (ltb 32 L) 3 (refuse (loose L p) 4 (refuse (not (exists (about p L) routes)) 7 0))
 
+-- and those of a change
 unfoldable pub change-number : List Route → (p L hop : ℕ) → ℕ
 change-number routes p L hop =
     refuse (ltb 32 L) 3

@@ -101,8 +101,10 @@ history-by acting t before calls = after-by acting t (record { memory = acting t
 abbrev pub next : Settings → State → Call → State
 next = next-by act
 
+-- so after a list of our calls
 abbrev pub after : Settings → State → List Call → State
 after = after-by act
 
+-- and so a history of them
 abbrev pub history : Settings → (before : Memory) → List Call → State
 history = history-by act

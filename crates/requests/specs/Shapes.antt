@@ -59,9 +59,11 @@ no-numbers = record { address = 0; length = 0; hop = 0 }
 unfoldable pub with-octet : Numbers → ℕ → Numbers
 with-octet ns n = record { address = ns .address % 2 ^ 24 * 2 ^ 8 + n; length = ns .length; hop = ns .hop }
 
+-- with the length
 unfoldable pub with-length : Numbers → ℕ → Numbers
 with-length ns n = record { address = ns .address; length = n; hop = ns .hop }
 
+-- and with the hop
 unfoldable pub with-hop : Numbers → ℕ → Numbers
 with-hop ns n = record { address = ns .address; length = ns .length; hop = n }
 
@@ -98,12 +100,15 @@ fit shape line = items shape line 0 no-numbers
 abbrev pub add-shape : List ℕ
 add-shape = spelled "add O.O.O.O/L H"
 
+-- drop and a prefix
 abbrev pub drop-shape : List ℕ
 drop-shape = spelled "drop O.O.O.O/L"
 
+-- move, a prefix and a hop
 abbrev pub move-shape : List ℕ
 move-shape = spelled "move O.O.O.O/L H"
 
+-- find and an address
 abbrev pub find-shape : List ℕ
 find-shape = spelled "find O.O.O.O"
 

@@ -1,9 +1,7 @@
 // The text program: the lines of standard input, answered by a small table that starts cleared.
 // What has been read is answered before more is waited for; a read or a write that fails ends it.
 ghost use Prim.Native.Nat.{_≤_};
-ghost use mathlib.Core.Path.{_≡_};
 ghost use lib.ListN.{length};
-ghost use Rattle.lines.specs.Lines.{Room};
 use libc::STDIN_FILENO;
 use libc::STDOUT_FILENO;
 use rules::Settings;
@@ -23,10 +21,7 @@ fn serve(
     line: &mut [u8],
     chunk: &mut [u8],
     out: &mut [u8],
-)
-    requires { ⌜ Room (now line) 0 (now chunk) (now out) ⌝ }
-    requires { ⌜ 33 ≤ length (now out) ⌝ }
-{
+) {
     let mut kept = 0;
     // A proved loop has to end, and nothing says that the input does: no run uses these turns up.
     let mut turns = u64::MAX;
@@ -36,37 +31,21 @@ fn serve(
             return;
         }
         if got == 0 {
-            let written = lines::finish_input(settings, counters, slots, line, kept, out);
-            write_first(out, written);
+            let last = lines::finish_input(settings, counters, slots, line, kept, out);
+            write_first(out, last.written);
             return;
         }
         let n = io::count(got, chunk);
         let fed = lines::feed_chunk(settings, counters, slots, line, kept, &chunk[..n], out);
+        if fed.refused {
+            return;
+        }
         if !write_first(out, fed.written) {
             return;
         }
         kept = fed.count;
         turns -= 1;
     }
-}
-
-// Room for the answers to a chunk of 16,384 bytes: 33 for each.
-fn answers_room() -> [u8; 540672]
-    ensures { λ r. ⌜ 540672 ≡ length r ⌝ }
-{
-    [0; 540672]
-}
-
-fn chunk_room() -> [u8; 16384]
-    ensures { λ r. ⌜ 16384 ≡ length r ⌝ }
-{
-    [0; 16384]
-}
-
-fn line_room() -> [u8; 65]
-    ensures { λ r. ⌜ 65 ≡ length r ⌝ }
-{
-    [0; 65]
 }
 
 fn main() {
@@ -82,9 +61,10 @@ fn main() {
     let mut counters = [0u8; 512];
     let mut slots = [0u32; 257];
     table::clear(settings, &mut counters, &mut slots);
-    let mut line = line_room();
-    let mut chunk = chunk_room();
-    let mut out = answers_room();
+    // The rooms that no chunk is refused with: 65 bytes for the line, and 33 for each of a chunk.
+    let mut line = [0u8; 65];
+    let mut chunk = [0u8; 16384];
+    let mut out = [0u8; 540672];
     serve(
         settings,
         &mut counters,

@@ -1,4 +1,4 @@
--- Both lists keep their lengths; four numbers of a case lie below the length of the list.
+-- Both lists keep their lengths; what is asked of the numbers is linear.
 use Prim.Native.Nat.{_-_}
 use mathlib.Core.Path.{_≡_}
 use lib.ListN.{length}
@@ -16,41 +16,23 @@ abbrev μ-loop : tie.MeasureT-loop
 loop-holds : tie.Need-loop-holds Inv-loop μ-loop
 loop-holds c = search needs
 
-mul-at : tie.Need-mul-at Inv-loop μ-loop
-mul-at c = search needs
+mul-x : tie.Need-mul-x Inv-loop μ-loop
+mul-x c = search needs
 
-mul-case : tie.Need-mul-case Inv-loop μ-loop
-mul-case c = search needs
+shared-slice-read-x : tie.Need-shared-slice-read-x Inv-loop μ-loop
+shared-slice-read-x c = search needs
 
-shared-slice-read-case : tie.Need-shared-slice-read-case Inv-loop μ-loop
-shared-slice-read-case c = search needs
+cast-what : tie.Need-cast-what Inv-loop μ-loop
+cast-what c = search needs
 
-add-case : tie.Need-add-case Inv-loop μ-loop
-add-case c = search needs
+cast-p : tie.Need-cast-p Inv-loop μ-loop
+cast-p c = search needs
 
-mul-case-2 : tie.Need-mul-case-2 Inv-loop μ-loop
-mul-case-2 c = search needs
+cast-length : tie.Need-cast-length Inv-loop μ-loop
+cast-length c = search needs
 
-shared-slice-read-case-2 : tie.Need-shared-slice-read-case-2 Inv-loop μ-loop
-shared-slice-read-case-2 c = search needs
-
-add-case-2 : tie.Need-add-case-2 Inv-loop μ-loop
-add-case-2 c = search needs
-
-mul-case-3 : tie.Need-mul-case-3 Inv-loop μ-loop
-mul-case-3 c = search needs
-
-shared-slice-read-case-3 : tie.Need-shared-slice-read-case-3 Inv-loop μ-loop
-shared-slice-read-case-3 c = search needs
-
-add-case-3 : tie.Need-add-case-3 Inv-loop μ-loop
-add-case-3 c = search needs
-
-mul-case-4 : tie.Need-mul-case-4 Inv-loop μ-loop
-mul-case-4 c = search needs
-
-shared-slice-read-case-4 : tie.Need-shared-slice-read-case-4 Inv-loop μ-loop
-shared-slice-read-case-4 c = search needs
+cast-hop : tie.Need-cast-hop Inv-loop μ-loop
+cast-hop c = search needs
 
 case-requires : tie.Need-case-requires Inv-loop μ-loop
 case-requires c κs = search needs
@@ -80,18 +62,12 @@ run-spec =
     Inv-loop
     μ-loop
     loop-holds
-    mul-at
-    mul-case
-    shared-slice-read-case
-    add-case
-    mul-case-2
-    shared-slice-read-case-2
-    add-case-2
-    mul-case-3
-    shared-slice-read-case-3
-    add-case-3
-    mul-case-4
-    shared-slice-read-case-4
+    mul-x
+    shared-slice-read-x
+    cast-what
+    cast-p
+    cast-length
+    cast-hop
     case-requires
     add-i
     loop-less

@@ -1,58 +1,36 @@
--- `lines::answer_line` meets its contract: what the line was read as says which call replies, and that call's contract says how.
-use mathlib.Core.Path.{refl, sym, _∙_}
+-- `lines::answer_line` meets its contract: without room nothing is put, and with it the inner call's contract says all.
+use mathlib.Core.Path.{refl}
+use native.Mathlib.Omega.{arith}
 use borrow.Author.Needs.{needs}
-use Rattle.lines.specs.Lines.{reply, answer}
-use Rattle.lines.proofs.Replies.{by-update, by-lookup}
+use borrow.Author.Tests.{leb-true}
+use Rattle.rules.proofs.Told.{told-false, told-true}
+use Rattle.lines.specs.Lines.{fits, answer-line}
 use Rattle.lines.proofs.answer_line.Statement.{statement}
 use Rattle.lines.proofs.answer_line.Tie as tie
 
-read-request-requires : tie.Need-read-request-requires
-read-request-requires c κs = search needs
-
-enum-known-prefix : tie.Need-enum-known-prefix
-enum-known-prefix c = search needs
-
-add-requires : tie.Need-add-requires
-add-requires c κs = search needs
-
-put-outcome-requires : tie.Need-put-outcome-requires
-put-outcome-requires c κs = search needs
-
-enum-known-prefix-2 : tie.Need-enum-known-prefix-2
-enum-known-prefix-2 c = search needs
-
-withdraw-requires : tie.Need-withdraw-requires
-withdraw-requires c κs = search needs
-
-put-outcome-requires-2 : tie.Need-put-outcome-requires-2
-put-outcome-requires-2 c κs = search needs
-
-enum-known-prefix-3 : tie.Need-enum-known-prefix-3
-enum-known-prefix-3 c = search needs
-
-change-requires : tie.Need-change-requires
-change-requires c κs = search needs
-
-put-outcome-requires-3 : tie.Need-put-outcome-requires-3
-put-outcome-requires-3 c κs = search needs
-
-enum-known-address : tie.Need-enum-known-address
-enum-known-address c = search needs
-
-lookup-requires : tie.Need-lookup-requires
-lookup-requires c κs = search needs
-
-put-found-requires : tie.Need-put-found-requires
-put-found-requires c κs = search needs
-
-enum-told : tie.Need-enum-told
-enum-told c = search needs
-
-put-unreadable-requires : tie.Need-put-unreadable-requires
-put-unreadable-requires c κs = search needs
+has-room-at-requires : tie.Need-has-room-at-requires
+has-room-at-requires c κs = search needs
 
 same-length : tie.Need-same-length
 same-length c = search needs
+
+returns : tie.Need-returns
+unfolding answer-line
+returns c =
+    rw (told-false (c .before .has-room-at .ensures) (c .if1 .taken))
+    (record {
+      refused-is = refl;
+      answered = record {
+        memory-is = refl;
+        put = record { put = record { holds = refl; end = omega arith }; short = omega arith };
+      };
+    })
+
+answer-into-requires : tie.Need-answer-into-requires
+unfolding fits
+answer-into-requires c κs =
+    let test = c .before .before .before in
+    leb-true _ _ (told-true (test .before .has-room-at .ensures) (test .if1 .left))
 
 same-length-2 : tie.Need-same-length-2
 same-length-2 c = search needs
@@ -60,109 +38,26 @@ same-length-2 c = search needs
 same-length-3 : tie.Need-same-length-3
 same-length-3 c = search needs
 
-returns : tie.Need-returns
-unfolding answer reply
-returns c =
-    let call = c .before .before .before .before .before .before .before .before in
-    let told = call .before .before .before .before in
-    rw (sym (told .before .before .read-request .ensures) ∙ told .prefix .given .1)
-    (by-update (call .add .ensures) (c .before .before .put-outcome .ensures))
-
 same-length-4 : tie.Need-same-length-4
 same-length-4 c = search needs
 
-same-length-5 : tie.Need-same-length-5
-same-length-5 c = search needs
-
-same-length-6 : tie.Need-same-length-6
-same-length-6 c = search needs
-
 returns-2 : tie.Need-returns-2
-unfolding answer reply
+unfolding answer-line
 returns-2 c =
-    let call = c .before .before .before .before .before .before .before .before in
-    let told = call .before .before .before .before in
-    rw (sym (told .before .before .read-request .ensures) ∙ told .prefix2 .given .1)
-    (by-update (call .withdraw .ensures) (c .before .before .put-outcome2 .ensures))
-
-same-length-7 : tie.Need-same-length-7
-same-length-7 c = search needs
-
-same-length-8 : tie.Need-same-length-8
-same-length-8 c = search needs
-
-same-length-9 : tie.Need-same-length-9
-same-length-9 c = search needs
-
-returns-3 : tie.Need-returns-3
-unfolding answer reply
-returns-3 c =
-    let call = c .before .before .before .before .before .before .before .before in
-    let told = call .before .before .before .before in
-    rw (sym (told .before .before .read-request .ensures) ∙ told .prefix3 .given .1)
-    (by-update (call .change .ensures) (c .before .before .put-outcome3 .ensures))
-
-same-length-10 : tie.Need-same-length-10
-same-length-10 c = search needs
-
-same-length-11 : tie.Need-same-length-11
-same-length-11 c = search needs
-
-same-length-12 : tie.Need-same-length-12
-same-length-12 c = search needs
-
-returns-4 : tie.Need-returns-4
-unfolding answer reply
-returns-4 c =
-    let call = c .before .before .before .before in
-    let told = call .before .before .before .before in
-    rw (sym (told .before .before .read-request .ensures) ∙ told .address .given .1)
-    (by-lookup _ (call .lookup .ensures) (c .before .before .put-found .ensures))
-
-same-length-13 : tie.Need-same-length-13
-same-length-13 c = search needs
-
-returns-5 : tie.Need-returns-5
-unfolding answer reply
-returns-5 c =
-    let told = c .before .before .before .before in
-    rw (sym (told .before .before .read-request .ensures) ∙ told .enum-told .given .1)
-    (record { memory-is = refl; put = c .before .before .put-unreadable .ensures })
+    let call = c .before .before .before .before .before .before in
+    let test = call .before .before .before .before in
+    rw (told-true (test .before .has-room-at .ensures) (test .if1 .left))
+    (record { refused-is = refl; answered = call .answer-into .ensures })
 
 pub answer-line-spec : {M : Type 1} → statement M
 answer-line-spec =
     tie.close
     (tie.spec
-    read-request-requires
-    enum-known-prefix
-    add-requires
-    put-outcome-requires
-    enum-known-prefix-2
-    withdraw-requires
-    put-outcome-requires-2
-    enum-known-prefix-3
-    change-requires
-    put-outcome-requires-3
-    enum-known-address
-    lookup-requires
-    put-found-requires
-    enum-told
-    put-unreadable-requires
+    has-room-at-requires
     same-length
+    returns
+    answer-into-requires
     same-length-2
     same-length-3
-    returns
     same-length-4
-    same-length-5
-    same-length-6
-    returns-2
-    same-length-7
-    same-length-8
-    same-length-9
-    returns-3
-    same-length-10
-    same-length-11
-    same-length-12
-    returns-4
-    same-length-13
-    returns-5)
+    returns-2)

@@ -1,148 +1,61 @@
--- `lines::feed_chunk` meets its contract. The invariant: what lies in lent memory is the stream after the bytes passed, and each of the three ways of a turn is one law of `Streams`.
-use Prim.Native.Nat.{_-_}
-use mathlib.Core.Path.{_≡_, refl}
-use native.Mathlib.Omega.{arith}
+-- `lines::feed_chunk` meets its contract: without room the stream stays, and with it the inner call's contract says all.
+use mathlib.Core.Bool.{true}
 use borrow.Author.Needs.{needs}
-use lib.ListN.{length, length-set}
-use lib.Seq.{length-take-le, take-length}
-use Rattle.lines.specs.Lines.{feed}
-use Rattle.lines.proofs.Streams.{Turn, feed-more, lies-going, lies-ended, lies-kept, lies-left-out}
+use Rattle.rules.proofs.Told.{told-false, told-true}
+use Rattle.lines.specs.Lines.{feed-chunk}
+use Rattle.lines.proofs.Rooms.{room-of}
+use Rattle.lines.proofs.Streams.{lies-going}
 use Rattle.lines.proofs.feed_chunk.Statement.{statement}
 use Rattle.lines.proofs.feed_chunk.Tie as tie
 
-abbrev Inv-loop : tie.InvT-loop
-Inv-loop settings counters₀ slots₀ line₀ kept chunk out₀ count₀ written₀ i₀ counters slots line out count written i =
-    Turn settings counters₀ slots₀ line₀ kept chunk out₀ counters slots line out count written i
+has-room-requires : tie.Need-has-room-requires
+has-room-requires c κs = search needs
 
-abbrev μ-loop : tie.MeasureT-loop
-μ-loop settings counters₀ slots₀ line₀ kept chunk out₀ count₀ written₀ i₀ counters slots line out count written i =
-    length chunk - i
-
-loop-holds : tie.Need-loop-holds Inv-loop μ-loop
-unfolding feed
-loop-holds c =
-    let a = c .before .before .before .before .before in
-    record {
-      inside = omega arith;
-      counters-long = refl;
-      slots-long = refl;
-      line-long = refl;
-      out-long = refl;
-      lies = lies-going 0 _ _ _ _ (a .pre .kept-in);
-    }
-
-shared-slice-read-b : tie.Need-shared-slice-read-b Inv-loop μ-loop
-shared-slice-read-b c = search needs
-
-add-next : tie.Need-add-next Inv-loop μ-loop
-add-next c = search needs
-
-slice-reshare-prefix-answer-line : tie.Need-slice-reshare-prefix-answer-line Inv-loop μ-loop
-slice-reshare-prefix-answer-line c = search needs
-
-slice-aggregate-answer-line : tie.Need-slice-aggregate-answer-line Inv-loop μ-loop
-slice-aggregate-answer-line c =
-    let l = c .before .before .before .before .before .before .loop in
-    omega (arith, length-take-le (l .count) (l .line) (omega arith))
-
-answer-line-requires : tie.Need-answer-line-requires Inv-loop μ-loop
-answer-line-requires c κs = search needs
-
-slice-write-line : tie.Need-slice-write-line Inv-loop μ-loop
-slice-write-line c = search needs
-
-add-count : tie.Need-add-count Inv-loop μ-loop
-add-count c = search needs
-
-loop-less : tie.Need-loop-less Inv-loop μ-loop
-loop-less c = search needs
-
-loop-again : tie.Need-loop-again Inv-loop μ-loop
-loop-again c =
-    let turn = c .before .before .before .before .before .before .before .before .before .before .before .before .before in
-    let now = turn .before .loop .inv in
-    record {
-      inside = omega arith;
-      counters-long = search needs;
-      slots-long = search needs;
-      line-long = now .line-long;
-      out-long = search needs;
-      lies = rw (feed-more _ _ _ _ (turn .loop-test .taken)) (lies-ended _ (now .lies) (c .before .before .before .before .before .before .before .before .before .before .before .if1 .taken) (c .before .before .before .before .before .before .answer-line .ensures));
-    }
-
-loop-less-2 : tie.Need-loop-less-2 Inv-loop μ-loop
-loop-less-2 c = search needs
-
-loop-again-2 : tie.Need-loop-again-2 Inv-loop μ-loop
-loop-again-2 c =
-    let turn = c .before .before .before in
-    let now = turn .before .loop .inv in
-    record {
-      inside = omega arith;
-      counters-long = now .counters-long;
-      slots-long = now .slots-long;
-      line-long = simp length-set (now .line-long);
-      out-long = now .out-long;
-      lies = rw (feed-more _ _ _ _ (turn .loop-test .taken)) (lies-kept _ (now .lies) (c .before .if1 .left) (c .if2 .taken));
-    }
-
-loop-less-3 : tie.Need-loop-less-3 Inv-loop μ-loop
-loop-less-3 c = search needs
-
-loop-again-3 : tie.Need-loop-again-3 Inv-loop μ-loop
-loop-again-3 c =
-    let turn = c .before .before .before in
-    let now = turn .before .loop .inv in
-    record {
-      inside = omega arith;
-      counters-long = now .counters-long;
-      slots-long = now .slots-long;
-      line-long = now .line-long;
-      out-long = now .out-long;
-      lies = rw (feed-more _ _ _ _ (turn .loop-test .taken)) (lies-left-out _ (now .lies) (c .before .if1 .left) (c .if2 .left));
-    }
-
-same-length : tie.Need-same-length Inv-loop μ-loop
+same-length : tie.Need-same-length
 same-length c = search needs
 
-same-length-2 : tie.Need-same-length-2 Inv-loop μ-loop
+same-length-2 : tie.Need-same-length-2
 same-length-2 c = search needs
 
-same-length-3 : tie.Need-same-length-3 Inv-loop μ-loop
+returns : tie.Need-returns
+unfolding feed-chunk
+returns c = rw (told-false (c .before .has-room .ensures) (c .if1 .taken)) (lies-going true _ _ _ _)
+
+feed-into-requires : tie.Need-feed-into-requires
+feed-into-requires c κs =
+    let test = c .before .before .before .before in
+    room-of (told-true (test .before .has-room .ensures) (test .if1 .left))
+
+same-length-3 : tie.Need-same-length-3
 same-length-3 c = search needs
 
-same-length-4 : tie.Need-same-length-4 Inv-loop μ-loop
+same-length-4 : tie.Need-same-length-4
 same-length-4 c = search needs
 
-returns : tie.Need-returns Inv-loop μ-loop
-returns c =
-    let a = c .before .before .before .before .before .before .before .args in
-    let l = c .before .loop in
-    let all : l .i ≡ length (a .chunk .now) = omega arith in
-    rw take-length at (rw all at (l .inv .lies))
+same-length-5 : tie.Need-same-length-5
+same-length-5 c = search needs
+
+same-length-6 : tie.Need-same-length-6
+same-length-6 c = search needs
+
+returns-2 : tie.Need-returns-2
+unfolding feed-chunk
+returns-2 c =
+    let call = c .before .before .before .before .before .before .before .before in
+    let test = call .before .before .before .before .before in
+    rw (told-true (test .before .has-room .ensures) (test .if1 .left)) (call .feed-into .ensures)
 
 pub feed-chunk-spec : {M : Type 1} → statement M
 feed-chunk-spec =
     tie.close
     (tie.spec
-    Inv-loop
-    μ-loop
-    loop-holds
-    shared-slice-read-b
-    add-next
-    slice-reshare-prefix-answer-line
-    slice-aggregate-answer-line
-    answer-line-requires
-    slice-write-line
-    add-count
-    loop-less
-    loop-again
-    loop-less-2
-    loop-again-2
-    loop-less-3
-    loop-again-3
+    has-room-requires
     same-length
     same-length-2
+    returns
+    feed-into-requires
     same-length-3
     same-length-4
-    returns)
+    same-length-5
+    same-length-6
+    returns-2)

@@ -1,5 +1,4 @@
--- `routes::serve` meets its contract. The invariant: no more than 65 bytes are kept, and every lent list is as long as it was; the turns fall.
-use Prim.Native.Nat.{_≤_}
+-- `routes::serve` meets its contract. The invariant: every lent list is as long as it was; the turns fall.
 use mathlib.Core.Path.{_≡_}
 use borrow.Author.Needs.{needs}
 use lib.ListN.{length}
@@ -8,7 +7,7 @@ use Rattle.routes.proofs.serve.Tie as tie
 
 abbrev Inv-loop : tie.InvT-loop
 Inv-loop settings counters₀ slots₀ line₀ chunk₀ out₀ kept₀ turns₀ counters slots line chunk out kept turns =
-    (kept ≤ 65) × ((length counters ≡ length counters₀) × ((length slots ≡ length slots₀) × ((length line ≡ length line₀) × ((length chunk ≡ length chunk₀) × (length out ≡ length out₀)))))
+    (length counters ≡ length counters₀) × ((length slots ≡ length slots₀) × ((length line ≡ length line₀) × ((length chunk ≡ length chunk₀) × (length out ≡ length out₀))))
 
 abbrev μ-loop : tie.MeasureT-loop
 μ-loop settings counters₀ slots₀ line₀ chunk₀ out₀ kept₀ turns₀ counters slots line chunk out kept turns =
@@ -74,9 +73,6 @@ slice-aggregate-feed-chunk c = search needs
 feed-chunk-requires : tie.Need-feed-chunk-requires Inv-loop μ-loop
 feed-chunk-requires c κs = search needs
 
-write-first-requires-2 : tie.Need-write-first-requires-2 Inv-loop μ-loop
-write-first-requires-2 c κs = search needs
-
 same-length-11 : tie.Need-same-length-11 Inv-loop μ-loop
 same-length-11 c = search needs
 
@@ -95,14 +91,8 @@ same-length-15 c = search needs
 returns-3 : tie.Need-returns-3 Inv-loop μ-loop
 returns-3 c = search needs
 
-sub-turns : tie.Need-sub-turns Inv-loop μ-loop
-sub-turns c = search needs
-
-loop-less : tie.Need-loop-less Inv-loop μ-loop
-loop-less c = search needs
-
-loop-again : tie.Need-loop-again Inv-loop μ-loop
-loop-again c = search needs
+write-first-requires-2 : tie.Need-write-first-requires-2 Inv-loop μ-loop
+write-first-requires-2 c κs = search needs
 
 same-length-16 : tie.Need-same-length-16 Inv-loop μ-loop
 same-length-16 c = search needs
@@ -121,6 +111,33 @@ same-length-20 c = search needs
 
 returns-4 : tie.Need-returns-4 Inv-loop μ-loop
 returns-4 c = search needs
+
+sub-turns : tie.Need-sub-turns Inv-loop μ-loop
+sub-turns c = search needs
+
+loop-less : tie.Need-loop-less Inv-loop μ-loop
+loop-less c = search needs
+
+loop-again : tie.Need-loop-again Inv-loop μ-loop
+loop-again c = search needs
+
+same-length-21 : tie.Need-same-length-21 Inv-loop μ-loop
+same-length-21 c = search needs
+
+same-length-22 : tie.Need-same-length-22 Inv-loop μ-loop
+same-length-22 c = search needs
+
+same-length-23 : tie.Need-same-length-23 Inv-loop μ-loop
+same-length-23 c = search needs
+
+same-length-24 : tie.Need-same-length-24 Inv-loop μ-loop
+same-length-24 c = search needs
+
+same-length-25 : tie.Need-same-length-25 Inv-loop μ-loop
+same-length-25 c = search needs
+
+returns-5 : tie.Need-returns-5 Inv-loop μ-loop
+returns-5 c = search needs
 
 pub serve-spec : {M : Type 1} → statement M
 serve-spec =
@@ -148,19 +165,25 @@ serve-spec =
     slice-reshare-prefix-feed-chunk
     slice-aggregate-feed-chunk
     feed-chunk-requires
-    write-first-requires-2
     same-length-11
     same-length-12
     same-length-13
     same-length-14
     same-length-15
     returns-3
-    sub-turns
-    loop-less
-    loop-again
+    write-first-requires-2
     same-length-16
     same-length-17
     same-length-18
     same-length-19
     same-length-20
-    returns-4)
+    returns-4
+    sub-turns
+    loop-less
+    loop-again
+    same-length-21
+    same-length-22
+    same-length-23
+    same-length-24
+    same-length-25
+    returns-5)
