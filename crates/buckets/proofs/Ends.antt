@@ -1,13 +1,13 @@
 -- Where a search ends: in a slot whose words are lent and whose mark is occupied.
 use Prim.Native.Nat.{ℕ, zero, suc, _+_, _≤_, _<_}
-use mathlib.Core.Path.{_≡_, refl, sym, ap, _∙_}
+use mathlib.Core.Path.{_≡_, refl}
 use mathlib.Core.Bool.{Bool, true, false, cond}
 use mathlib.Core.List.{List, [], _∷_}
 use mathlib.Core.Option.{Option, some, none}
 use native.Mathlib.Omega.{arith}
 use lib.ListN.{length}
 use Rattle.rules.specs.declared.Settings.{Settings}
-use Rattle.rules.specs.declared.Place.the-variants.{At, Absent}
+use Rattle.rules.specs.declared.Place.the-variants.{At}
 use Rattle.rules.specs.Tools.{those}
 use Rattle.rules.specs.Table.{in-range, prefix, slot-number, mark-word, mark-at, occupied, holds, free, held, vacant, found-or, down-from, bit-set, set-bits, search as searched}
 use Rattle.rules.specs.Ready.{Ready, Slots}

@@ -1,12 +1,12 @@
 -- What the search for a free slot answered, as what the bucket has.
 use Prim.Native.Nat.{ℕ}
 use mathlib.Core.Path.{_≡_, refl}
-use mathlib.Core.Bool.{true, false}
+use mathlib.Core.Bool.{false}
 use mathlib.Core.Option.{Option, some, none}
 use native.Mathlib.Omega.{arith}
 use Rattle.rules.specs.declared.Settings.{Settings}
 use Rattle.rules.specs.Table.{is-some}
-use Rattle.rules.proofs.Found.{InBucket, some-is, none-is}
+use Rattle.rules.proofs.Found.{InBucket, none-is}
 use Rattle.buckets.specs.declared.Vacancy.the-variants.{At, Full}
 use Rattle.buckets.specs.Vacancy.{vacancy-of}
 

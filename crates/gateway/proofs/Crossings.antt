@@ -2,7 +2,7 @@
 use Prim.Native.Nat.{ℕ, _*_, _^_, _≤_}
 use mathlib.Core.Path.{_≡_, refl}
 use mathlib.Core.List.{List}
-use Rattle.rules.specs.Table.{Memory, Update, left}
+use Rattle.rules.specs.Table.{Update, left}
 use Rattle.gateway.specs.Crossing.{Crossed}
 
 module _ {u : Update} {refusal : ℕ} {counters slots : List ℕ} (ensured : u ≡ left refusal counters slots) where

@@ -3,7 +3,7 @@ use Prim.Native.Nat.{ℕ, _*_, _^_}
 use mathlib.Core.List.{List}
 use mathlib.Core.Path.{_≡_}
 use Rattle.rules.specs.declared.Settings.{Settings}
-use Rattle.rules.specs.Table.{Memory, Update, lent}
+use Rattle.rules.specs.Table.{Update, lent}
 
 -- the seven numbers that come first in every call
 abbrev pub settings-of : (k d e s a b c : ℕ) → Settings

@@ -16,7 +16,7 @@ use Rattle.rules.specs.Table.{bucket, in-range, prefix, positions, Memory, loos
 use Rattle.rules.proofs.Members.{both}
 use Rattle.rules.proofs.Refusals.{passed}
 use Rattle.rules.proofs.Placing.{ranges, positions-length}
-use Rattle.promises.specs.History.{Route, Call, Clear, Add, Withdraw, Change, word-sized, act, written, noted, next, about, without, next-by}
+use Rattle.promises.specs.History.{Route, Call, Clear, Add, Withdraw, Change, word-sized, act, written, noted, about, without, next-by}
 use Rattle.promises.specs.Demands.{Finds, SaysNone, number, beside, number-given, Stored, sum, exists, matches, crowded, overflows, add-number, withdraw-number, change-number, Longest, NoMatch, marks, covered, probes-down-to, in-use, lengths-in-use}
 use Rattle.promises.proofs.Sums.{exists-there, exists-one}
 use Rattle.promises.proofs.Paper.{route, worth, stored-route, paper-withdrawn}

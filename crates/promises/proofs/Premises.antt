@@ -1,7 +1,7 @@
 -- Each promise's premises are met by a small worked history: computed, and handed to the promise.
-use Prim.Native.Nat.{ℕ, _+_, _*_, _^_}
+use Prim.Native.Nat.{ℕ}
 use mathlib.Core.Path.{_≡_, refl, ap}
-use mathlib.Core.Bool.{Bool, true, false, _&&_}
+use mathlib.Core.Bool.{true, false}
 use mathlib.Core.List.{List, [], _∷_}
 use mathlib.Core.Logic.{_≢_}
 use native.Mathlib.Omega.{arith}
@@ -11,7 +11,7 @@ use Rattle.rules.specs.declared.Settings.{Settings}
 use Rattle.rules.specs.Tools.{within, all}
 use Rattle.rules.specs.Table.{in-range, bucket, Memory, lent, counters-size, slots-size, held, stored, refuse, sized, memory-refusal, update, added, withdrawn, clear}
 use Rattle.rules.proofs.Worked.{ip, T, same, computing as rules-computing}
-use Rattle.promises.specs.History.{Route, Call, Clear, Add, Withdraw, Change, word-sized, all-word-sized, act, ask, about, without, with-hop, written, noted, next, after, history, next-by, after-by, history-by}
+use Rattle.promises.specs.History.{Route, Call, Clear, Add, Withdraw, Change, word-sized, all-word-sized, act, ask, about, without, with-hop, written, noted, history, next-by, after-by, history-by}
 use Rattle.promises.specs.Demands.{Finds, Swapped, matches, Longest, adds, refusals}
 use Rattle.promises.specs.Calls.{Ensured, Made, Ran, Stop, Step, calls-of, Served}
 use Rattle.promises.proofs.Paper.{route}

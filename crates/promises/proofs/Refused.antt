@@ -2,8 +2,8 @@
 -- does nothing undefined is what the check of crates/table proves of each function, none of which requires anything.
 -- Each fact is the call's definition, taken by its cases.
 use Prim.Native.Nat.{ℕ}
-use mathlib.Core.Path.{_≡_, refl, sym, ap, _∙_}
-use mathlib.Core.Bool.{Bool, true, false}
+use mathlib.Core.Path.{_≡_, refl, sym, _∙_}
+use mathlib.Core.Bool.{false}
 use mathlib.Core.List.{List}
 use mathlib.Core.Logic.{_≢_}
 use lib.Dec.{eqb}

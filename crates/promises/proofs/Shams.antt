@@ -2,7 +2,7 @@
 -- of these. One computed history of small table T, and one call or lookup after it, shows each up.
 use Prim.Native.Nat.{ℕ, _+_, _-_, _^_, _<_}
 use mathlib.Core.Path.{_≡_, refl, sym, ap, _∙_}
-use mathlib.Core.Bool.{Bool, true, false, cond, not, _&&_, _||_, true≢false}
+use mathlib.Core.Bool.{Bool, true, false, cond, not, _&&_, true≢false}
 use mathlib.Core.List.{List, [], _∷_, _++_}
 use mathlib.Core.Option.{Option, some, none}
 use native.Mathlib.Nat.{suc-ne-zero}
@@ -15,7 +15,7 @@ use Rattle.rules.specs.Tools.{any, those}
 use Rattle.rules.specs.Table.{Memory, Update, lent, left, default-word, default-mark, mark-of, slot-number, counter-places, with-slot, update, step-each, clear, add, withdraw, change, claims, bits-where, vector-of, down-from, bit-set, set-bits, search as searched, route-answer, default-answer, place-answer, refused, answer-of, lookup, one-if}
 use Rattle.rules.proofs.Members.{both}
 use Rattle.promises.specs.History.{Route, Call, Clear, Add, Withdraw, Change, word-sized, all-word-sized, act, ask, Acting, history-by}
-use Rattle.promises.specs.Demands.{Longest, NoMatch, number-given, add-number, withdraw-number, change-number, exists, sum, number, crowded, beside, landings, overflows, matches, marks, covered, probes-down-to}
+use Rattle.promises.specs.Demands.{number-given, add-number, withdraw-number, change-number, exists, sum, number, crowded, beside, landings, overflows, matches, marks, covered, probes-down-to}
 use Rattle.promises.specs.Programs.{Asking, Promised, Honest}
 use Rattle.promises.proofs.Matches.{longest, longer, answer-by, Right, right}
 use Rattle.rules.proofs.Worked.{ip, T}

@@ -1,14 +1,14 @@
 -- What each accepted update leaves: for the default in the last word, for every other length in one slot of a bucket and its counters.
 use Prim.Native.Nat.{ℕ, _+_, _-_}
-use mathlib.Core.Path.{_≡_, refl, sym, ap, _∙_}
-use mathlib.Core.Bool.{true, false, not}
+use mathlib.Core.Path.{_≡_, sym, _∙_}
+use mathlib.Core.Bool.{true}
 use mathlib.Core.List.{List}
-use mathlib.Core.Option.{Option, some, none}
+use mathlib.Core.Option.{some}
 use lib.ListN.{set}
 use borrow.Author.Tests.{eq-eqb, ne-eqb, not-false}
 use Rattle.rules.specs.declared.Settings.{Settings}
 use Rattle.rules.specs.Table.{lent, left, default-word, mark-of, slot-number, held, vacant, is-some, stored, full, with-slot, with-default, with-found, counter-places, step-each, add-refusal, withdraw-refusal, change-refusal, added, withdrawn, changed, add, withdraw, change}
-use Rattle.rules.proofs.Refusals.{AddFitted, from-one, refused-by, accepted-by}
+use Rattle.rules.proofs.Refusals.{AddFitted, from-one, accepted-by}
 
 -- past 6 to 8, a stored prefix is held in its bucket and a new one finds a vacant slot
 pub stored-held : (t : Settings) (slots : List ℕ) (L p : ℕ) → (L ≡ 0 → ⊥) → stored t slots L p ≡ true → is-some (held t slots L p) ≡ true

@@ -2,7 +2,6 @@
 use mathlib.Core.Path.{refl}
 use native.Mathlib.Omega.{arith}
 use lib.ListN.{length-set}
-use borrow.Author.Needs.{needs}
 use Rattle.rules.specs.Table.{prefix-word, mark-word, with-slot}
 use Rattle.buckets.proofs.put_slot.Statement.{statement}
 use Rattle.buckets.proofs.put_slot.Tie as tie

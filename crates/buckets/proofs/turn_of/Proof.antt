@@ -4,7 +4,6 @@ use mathlib.Core.Path.{_≡_}
 use native.Mathlib.Numerals.{unary-clauses}
 use native.Mathlib.Omega.{arith}
 use lib.Count.{leadingZeros, leading-top, leading-le}
-use Rattle.rules.specs.Ready.{Ready}
 use Rattle.rules.proofs.Vectors.{one-bit}
 use Rattle.buckets.specs.Turns.{Longest}
 use Rattle.buckets.proofs.turn_of.Statement.{statement}

@@ -1,6 +1,6 @@
 -- The checks are those of the rules; then the place that the search ends in answers, or the default does.
 use Prim.Native.Nat.{ℕ}
-use mathlib.Core.Path.{_≡_, _∙_, sym, ap, ap₂}
+use mathlib.Core.Path.{_∙_, sym, ap, ap₂}
 use denote.Ref.{now}
 use borrow.Author.Needs.{needs}
 use borrow.Author.Tests.{ne-eqb}

@@ -1,7 +1,6 @@
 -- Each arm gives the number of its case.
 use Rattle.rules.specs.Table.{one-if}
 use native.Mathlib.Omega.{arith}
-use mathlib.Core.Path.{refl}
 use Rattle.gateway.proofs.one_if.Statement.{statement}
 use Rattle.gateway.proofs.one_if.Tie as tie
 

@@ -1,6 +1,6 @@
 -- A mask is all ones shifted up by k = 32 − L bits, of which 32 are kept: 2^32 − 1 times 2^k is 2^k − 1 whole turns past
 -- 2^32 − 2^k.
-use mathlib.Core.Path.{_≡_, _∙_, ap}
+use mathlib.Core.Path.{_≡_}
 use Prim.Native.Nat.{ℕ, _+_, _-_, _*_, _%_, _^_, _≤_}
 use native.Mathlib.Omega.{arith}
 use lib.Arith.{digits-mod}

@@ -1,5 +1,5 @@
 -- A mask of j high bits clears the k low ones of a number of j + k = 32 bits: `and-high`.
-use mathlib.Core.Path.{_≡_, _∙_, ap, sym, subst}
+use mathlib.Core.Path.{_≡_, _∙_, ap, subst}
 use Prim.Native.Nat.{ℕ, _+_, _-_, _*_, _/_, _^_, _<_}
 use native.Mathlib.Nat.{add-sub-of-le}
 use lib.Bits.{bitAnd, and-high}

@@ -1,5 +1,4 @@
 -- What a search of one bucket found is what the bucket holds.
-use Prim.Native.Nat.{ℕ}
 use mathlib.Core.Path.{_∙_, sym, ap}
 use denote.Ref.{now}
 use borrow.Author.Needs.{needs}
@@ -8,8 +7,6 @@ use Rattle.rules.specs.Table.{stored, occupied, held}
 use Rattle.rules.proofs.Found.{found-at, found-nowhere, some-is, none-is}
 use Rattle.refusals.proofs.is_stored.Statement.{statement}
 use Rattle.refusals.proofs.is_stored.Tie as tie
-use Rattle.refusals.proofs.is_stored.Reads as reads
-use Rattle.refusals.proofs.is_stored.Lts as lts
 
 default-mark-requires : tie.Need-default-mark-requires
 default-mark-requires c κs = search needs

@@ -10,8 +10,6 @@ use Rattle.rules.proofs.Found.{some-is}
 use Rattle.buckets.proofs.Vacancies.{is-full, vacant-at}
 use Rattle.refusals.proofs.refuse_add.Statement.{statement}
 use Rattle.refusals.proofs.refuse_add.Tie as tie
-use Rattle.refusals.proofs.refuse_add.Reads as reads
-use Rattle.refusals.proofs.refuse_add.Lts as lts
 
 refuse-route-requires : tie.Need-refuse-route-requires
 refuse-route-requires c κs = search needs

@@ -1,6 +1,4 @@
 -- Each way out has the two tests of `within`.
-use Prim.Native.Nat.{_≤_}
-use mathlib.Core.Path.{refl}
 use borrow.Author.Tests.{lt-leb, le-leb}
 use Rattle.rules.specs.Tools.{within}
 use Rattle.settings.proofs.is_within.Statement.{statement}

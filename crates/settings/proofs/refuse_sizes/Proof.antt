@@ -7,8 +7,6 @@ use Rattle.rules.proofs.Refusals.{fits}
 use Rattle.rules.specs.Table.{memory-refusal, refuse, sized}
 use Rattle.settings.proofs.refuse_sizes.Statement.{statement}
 use Rattle.settings.proofs.refuse_sizes.Tie as tie
-use Rattle.settings.proofs.refuse_sizes.Reads as reads
-use Rattle.settings.proofs.refuse_sizes.Lts as lts
 
 is-in-range-requires : tie.Need-is-in-range-requires
 is-in-range-requires c κs = search needs

@@ -1,5 +1,5 @@
 -- 64 times 2^E times S fits, since E and S are at most 8.
-use Prim.Native.Nat.{ℕ, _*_, _%_, _^_, _≤_}
+use Prim.Native.Nat.{_*_, _%_, _^_, _≤_}
 use mathlib.Core.Path.{_≡_}
 use mathlib.Core.Bool.{true}
 use native.Mathlib.Nat.{mod-eq-of-lt, mul-le-mul}

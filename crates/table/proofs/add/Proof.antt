@@ -1,6 +1,6 @@
 -- Past the checks the default's word or the lowest vacant slot gets prefix and mark, and the counters are raised, as `add-default` and `add-slot` say.
 use Prim.Native.Nat.{ℕ, _+_}
-use mathlib.Core.Path.{_≡_, _∙_, sym, ap, ap₂}
+use mathlib.Core.Path.{_∙_, sym, ap, ap₂}
 use mathlib.Core.Bool.{true≢false}
 use native.Mathlib.Omega.{arith}
 use denote.Ref.{now}
@@ -14,8 +14,6 @@ use Rattle.buckets.proofs.Ends.{vacant-lent}
 use Rattle.buckets.proofs.Vacancies.{is-full, vacant-at}
 use Rattle.table.proofs.add.Statement.{statement}
 use Rattle.table.proofs.add.Tie as tie
-use Rattle.table.proofs.add.Reads as reads
-use Rattle.table.proofs.add.Lts as lts
 
 refuse-add-requires : tie.Need-refuse-add-requires
 refuse-add-requires c κs = search needs

@@ -1,6 +1,6 @@
 -- Past the checks the default's word or the slot that holds the prefix gets the new mark, as `change-default` and `change-slot` say.
 use Prim.Native.Nat.{ℕ, _+_}
-use mathlib.Core.Path.{_≡_, _∙_, sym, ap}
+use mathlib.Core.Path.{_∙_, sym, ap}
 use mathlib.Core.Bool.{true≢false}
 use native.Mathlib.Omega.{arith}
 use denote.Ref.{now}
@@ -13,8 +13,6 @@ use Rattle.rules.specs.Ready.{Ready, Slots}
 use Rattle.buckets.proofs.Ends.{held-ended}
 use Rattle.table.proofs.change.Statement.{statement}
 use Rattle.table.proofs.change.Tie as tie
-use Rattle.table.proofs.change.Reads as reads
-use Rattle.table.proofs.change.Lts as lts
 
 refuse-change-requires : tie.Need-refuse-change-requires
 refuse-change-requires c κs = search needs

@@ -1,13 +1,10 @@
 -- The checks are those of the rules; then the place that the search ends in answers, or the default does.
 use Prim.Native.Nat.{ℕ}
-use mathlib.Core.Path.{_≡_, _∙_, sym, ap, ap₂}
-use mathlib.Core.Bool.{Bool}
-use lib.Count.{ones}
+use mathlib.Core.Path.{_∙_, sym, ap, ap₂}
 use denote.Ref.{now}
 use borrow.Author.Needs.{needs}
 use borrow.Author.Tests.{ne-eqb}
-use Rattle.rules.specs.declared.Place.{Place}
-use Rattle.rules.specs.Table.{lent, lookup, route-answer, default-answer}
+use Rattle.rules.specs.Table.{lookup, route-answer, default-answer}
 use Rattle.rules.proofs.Answers.{by-route, by-default}
 use Rattle.rules.proofs.Refusals.{Fitted, memory-passed}
 use Rattle.rules.proofs.Placing.{occupied-low}
@@ -15,8 +12,6 @@ use Rattle.rules.proofs.Vectors.{ones-set-bits}
 use Rattle.buckets.proofs.Ends.{Ended, search-ended, set-lengths}
 use Rattle.table.proofs.lookup.Statement.{statement}
 use Rattle.table.proofs.lookup.Tie as tie
-use Rattle.table.proofs.lookup.Reads as reads
-use Rattle.table.proofs.lookup.Lts as lts
 
 refuse-memory-requires : tie.Need-refuse-memory-requires
 refuse-memory-requires c κs = search needs

@@ -1,6 +1,6 @@
 -- Past the checks the default's word or the slot that holds the prefix gets zeros, and the counters are lowered, as `withdraw-default` and `withdraw-slot` say.
 use Prim.Native.Nat.{ℕ}
-use mathlib.Core.Path.{_≡_, _∙_, sym, ap, ap₂}
+use mathlib.Core.Path.{_∙_, sym, ap, ap₂}
 use mathlib.Core.Bool.{true≢false}
 use native.Mathlib.Omega.{arith}
 use denote.Ref.{now}
@@ -13,8 +13,6 @@ use Rattle.rules.specs.Ready.{Ready, Slots}
 use Rattle.buckets.proofs.Ends.{held-ended}
 use Rattle.table.proofs.withdraw.Statement.{statement}
 use Rattle.table.proofs.withdraw.Tie as tie
-use Rattle.table.proofs.withdraw.Reads as reads
-use Rattle.table.proofs.withdraw.Lts as lts
 
 refuse-withdraw-requires : tie.Need-refuse-withdraw-requires
 refuse-withdraw-requires c κs = search needs

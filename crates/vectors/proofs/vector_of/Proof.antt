@@ -1,19 +1,15 @@
 -- After each turn the vector has the bits of the lengths so far: `bit-more` and `bit-less`.
-use Prim.Native.Nat.{ℕ, _+_, _-_, _^_, _≤_}
+use Prim.Native.Nat.{ℕ, _+_, _-_, _≤_}
 use mathlib.Core.Path.{_≡_, refl, sym, ap, _∙_}
 use mathlib.Core.Bool.{Bool}
 use mathlib.Core.List.{List}
 use native.Mathlib.Nat.{add-sub-cancel, le-antisymm}
 use native.Mathlib.Omega.{arith}
-use lib.Bits.{bitOr}
-use borrow.Author.Needs.{needs}
 use Rattle.rules.specs.declared.Settings.{Settings}
 use Rattle.rules.specs.Table.{prefix, claims, bits-where, vector-of}
 use Rattle.rules.proofs.Vectors.{one-bit, bit-more, bit-less}
 use Rattle.vectors.proofs.vector_of.Statement.{statement}
 use Rattle.vectors.proofs.vector_of.Tie as tie
-use Rattle.vectors.proofs.vector_of.Reads as reads
-use Rattle.vectors.proofs.vector_of.Lts as lts
 
 abbrev claimed : Settings → List ℕ → (address L : ℕ) → Bool
 claimed t counters address L = claims t counters L (prefix L address)

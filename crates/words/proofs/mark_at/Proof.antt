@@ -1,6 +1,5 @@
 -- The word that the code computes is `mark-word`.
 use native.Mathlib.Omega.{arith}
-use borrow.Author.Needs.{needs}
 use Rattle.rules.specs.Table.{mark-word, mark-at}
 use Rattle.words.proofs.Words.{reaches}
 use Rattle.words.proofs.mark_at.Statement.{statement}
