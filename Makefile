@@ -13,7 +13,7 @@
 
 VERSION = 0.1.0
 PREFIX = /usr/local
-RT = rt
+RT = tools/rt
 RUSTC = rustc
 CC = tools/x86-cc
 CFLAGS = -O2
