@@ -3,8 +3,9 @@
 use crate::library::{Area, Library, MARGIN};
 use crate::pair::{Answer, Difference, Pair};
 use crate::random::Random;
+use crate::calls::{Call, Lent, Settings};
 use crate::routes::Routes;
-use crate::rules::{self, Call, Lent, Settings};
+use crate::rules;
 use crate::slips::Slip;
 use crate::tally::Tally;
 use std::fmt;
@@ -128,7 +129,7 @@ fn pool(random: &mut Random) -> Vec<(u32, u32)> {
 
 impl History<'_> {
     fn run(mut self) -> Result<(), Failure> {
-        let size = self.t.bytes() + 4 * self.t.words();
+        let size = rules::counter_bytes(&self.t) + 4 * rules::slot_words(&self.t);
         let calls = match self.pool.len() {
             MOST_ROUTES => 2 * MOST_ROUTES,
             _ => (40_000_000 / size).clamp(300, 1500),
@@ -349,18 +350,18 @@ impl History<'_> {
             false => self.random.within(1, 65_536),
         };
         if length == 0 || self.random.percent(2) {
-            return pair.damage_word(self.library, self.t.words() - 1, mark);
+            return pair.damage_word(self.library, rules::slot_words(&self.t) - 1, mark);
         }
         if self.random.percent(50) {
             let step = self.random.below(self.t.k as usize);
-            let position = rules::positions(&self.t, prefix).nth(step).expect("one of K");
+            let position = rules::positions(&self.t, prefix)[step];
             return pair.damage_counter(
                 self.library,
-                self.t.counter(length, position),
+                rules::counter_at(&self.t, length, position),
                 self.random.pick(&COUNTS),
             );
         }
-        let slot = self.t.first_slot(length, prefix) + self.random.below(self.t.s as usize);
+        let slot = rules::first_slot(&self.t, length, prefix) + self.random.below(self.t.s as usize);
         let held = if self.random.percent(75) { prefix } else { self.random.pick(&self.pool).0 };
         pair.damage_word(self.library, 2 * slot, held);
         pair.damage_word(self.library, 2 * slot + 1, mark);

@@ -2,7 +2,7 @@
 //! the same memory, so that what the library writes is seen here, and a call that brings that process
 //! down is told as any other difference.
 
-use crate::rules::{Call, Lent, Settings};
+use crate::calls::{Call, Lent, Settings};
 use std::fs::{self, File, OpenOptions};
 use std::io::{self, Read, Write};
 use std::os::fd::AsRawFd;

@@ -11,6 +11,7 @@ macro_rules! say {
     };
 }
 
+mod calls;
 mod history;
 mod inputs;
 mod library;

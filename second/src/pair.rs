@@ -1,9 +1,10 @@
 //! One table twice: the library's memory and this program's own. Each call is done in both, and the
 //! answers and all of the memory are compared after it.
 
+use crate::calls::{Call, Lent, Settings};
 use crate::library::{Area, Library, MARGIN};
 use crate::routes::Routes;
-use crate::rules::{self, Call, Lent, Settings};
+use crate::rules::{self, counter_bytes, slot_words};
 use crate::slips::Slip;
 use std::fmt;
 
@@ -31,8 +32,8 @@ impl Pair {
         mut byte: impl FnMut() -> u8,
         mut word: impl FnMut() -> u32,
     ) -> Pair {
-        let counters: Vec<u8> = (0..t.bytes() + 2 * MARGIN).map(|_| byte()).collect();
-        let slots: Vec<u32> = (0..t.words() + 2 * MARGIN).map(|_| word()).collect();
+        let counters: Vec<u8> = (0..counter_bytes(&t) + 2 * MARGIN).map(|_| byte()).collect();
+        let slots: Vec<u32> = (0..slot_words(&t) + 2 * MARGIN).map(|_| word()).collect();
         library.counters(area, counters.len()).copy_from_slice(&counters);
         library.slots(area, slots.len()).copy_from_slice(&slots);
         Pair { t, area, counters, slots, routes: None, slip }
@@ -40,7 +41,7 @@ impl Pair {
 
     /// What this table's calls lend.
     pub fn lent(&self, call: Call) -> Lent {
-        Lent { counters: self.t.bytes(), slots: call.units() * self.t.words() }
+        Lent { counters: counter_bytes(&self.t), slots: call.units() * slot_words(&self.t) }
     }
 
     /// A counter; it is the same in both memories after a call.
@@ -90,7 +91,7 @@ impl Pair {
         offset: usize,
     ) -> Result<(), Difference> {
         library.counters(Area::Unaligned, self.counters.len()).copy_from_slice(&self.counters);
-        let slots = &self.slots[..MARGIN + self.t.words()];
+        let slots = &self.slots[..MARGIN + slot_words(&self.t)];
         let bytes = library.slot_bytes(Area::Unaligned, offset + 4 * slots.len());
         for (bytes, word) in bytes[offset..].chunks_exact_mut(4).zip(slots) {
             bytes.copy_from_slice(&word.to_le_bytes());
@@ -108,12 +109,12 @@ impl Pair {
         let theirs = &*library.counters(self.area, self.counters.len());
         if *theirs != *self.counters {
             let at = first_difference(theirs, &self.counters);
-            return same(&place("counter byte", at, self.t.bytes()), theirs[at], self.counters[at]);
+            return same(&place("counter byte", at, counter_bytes(&self.t)), theirs[at], self.counters[at]);
         }
         let theirs = &*library.slots(self.area, self.slots.len());
         if *theirs != *self.slots {
             let at = first_difference(theirs, &self.slots);
-            return same(&place("slot word", at, self.t.words()), theirs[at], self.slots[at]);
+            return same(&place("slot word", at, slot_words(&self.t)), theirs[at], self.slots[at]);
         }
         Ok(())
     }
@@ -140,7 +141,7 @@ impl Pair {
         let Some(routes) = &self.routes else {
             return Ok(());
         };
-        let counters = &self.counters[MARGIN..MARGIN + self.t.bytes()];
+        let counters = &self.counters[MARGIN..MARGIN + counter_bytes(&self.t)];
         for (length, filter) in (1..).zip(counters.chunks(1 << self.t.d)) {
             let sum = filter.iter().map(|counter| usize::from(*counter)).sum::<usize>();
             same(&format!("sum of the counters of length {length}"), sum, routes.counted(length))?;

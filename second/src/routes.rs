@@ -1,122 +1,256 @@
-//! The plain list of the routes that a history has stored, searched one by one. What a lookup
-//! answers after a history that began with a clear is read off it, and which updates are accepted.
+//! The table on paper: a list of routes and what demands 2 and 3 ask of it. No memory, no counters.
+//!
+//! As in `rules`, the arm `_` of a `match` on the slip is the right rule.
 
-use crate::rules::{bucket, positions, prefix, Call, Settings};
-use crate::slips::Slip;
+use super::calls::{Call, Settings};
+use super::rules::{bucket, positions, prefix};
+use super::slips::Slip;
 
+/// A stored route, with what its settings make of its prefix (nothing for the default).
 #[derive(Clone)]
 pub struct Route {
     pub prefix: u32,
     pub length: u32,
     pub hop: u32,
     positions: Vec<usize>,
+    bucket: usize,
 }
 
+impl Route {
+    fn hits(&self, position: usize) -> usize {
+        self.positions.iter().filter(|j| **j == position).count()
+    }
+}
+
+/// The routes that a history leaves.
 pub struct Routes {
     t: Settings,
     slip: Option<Slip>,
     list: Vec<Route>,
+    /// Withdrawn routes, which only a slip remembers.
+    gone: Vec<Route>,
 }
 
 impl Routes {
     pub fn new(t: Settings, slip: Option<Slip>) -> Routes {
-        Routes { t, slip, list: Vec::new() }
+        Routes { t, slip, list: Vec::new(), gone: Vec::new() }
     }
 
     pub fn list(&self) -> &[Route] {
         &self.list
     }
 
-    fn place(&self, p: u32, length: u32) -> Option<usize> {
-        self.list.iter().position(|route| route.length == length && route.prefix == p)
-    }
-
-    fn of_length(&self, length: u32) -> impl Iterator<Item = &Route> {
-        self.list.iter().filter(move |route| route.length == length)
-    }
-
-    /// How many steps of the stored routes of a length land on a position.
-    fn landed(&self, length: u32, position: usize) -> usize {
-        self.of_length(length).flat_map(|route| &route.positions).filter(|at| **at == position).count()
-    }
-
-    /// Follows an update of well-formed input and gives the refusal that it must get.
+    /// Does a clear or an update that refusals 1 to 5 let pass; gives its refusal, 0 for none.
     pub fn update(&mut self, call: Call) -> u64 {
         match call {
-            Call::Clear => self.list.clear(),
-            Call::Add { prefix, length, hop } => {
-                if self.place(prefix, length).is_some() {
-                    return 6;
-                }
-                let mut positions: Vec<usize> = Vec::new();
-                if length > 0 {
-                    let home = bucket(&self.t, prefix);
-                    let neighbours =
-                        self.of_length(length).filter(|route| bucket(&self.t, route.prefix) == home);
-                    if neighbours.count() == self.t.s as usize {
-                        return 8;
-                    }
-                    positions.extend(crate::rules::positions(&self.t, prefix));
-                    for at in &positions {
-                        let hits = positions.iter().filter(|other| *other == at).count();
-                        if self.landed(length, *at) + hits > 15 {
-                            return 9;
-                        }
-                    }
-                }
-                self.list.push(Route { prefix, length, hop, positions });
+            Call::Clear => self.clear(),
+            Call::Add { prefix, length, hop } => self.add(prefix, length, hop),
+            Call::Withdraw { prefix, length } => self.withdraw(prefix, length),
+            Call::Change { prefix, length, hop } => self.change(prefix, length, hop),
+            Call::Vector { .. } | Call::Lookup { .. } => 0,
+        }
+    }
+
+    /// The longest matching route and the probes it takes, as a lookup's number.
+    pub fn lookup(&self, address: u32) -> u64 {
+        let matching = self.list.iter().filter(|route| self.matches(route, address));
+        let best = match self.slip {
+            Some(Slip::PaperShortest) => matching.min_by_key(|route| route.length),
+            Some(Slip::PaperDefaultIgnored) => {
+                matching.filter(|route| route.length > 0).max_by_key(|route| route.length)
             }
-            Call::Withdraw { prefix, length } => {
-                let Some(place) = self.place(prefix, length) else {
-                    return 7;
-                };
-                if self.slip != Some(Slip::ListForgets) {
-                    self.list.swap_remove(place);
-                }
-            }
-            Call::Change { prefix, length, hop } => {
-                let Some(place) = self.place(prefix, length) else {
-                    return 7;
-                };
-                self.list[place].hop = hop;
-            }
-            Call::Vector { .. } | Call::Lookup { .. } => {}
+            _ => matching.max_by_key(|route| route.length),
+        };
+        let (found, hop, length) = match best {
+            Some(route) => (1, route.hop as u64, route.length),
+            None => (0, 0, 0),
+        };
+        let extra = if self.is(Slip::PaperProbesDefault) && found == 1 && length == 0 { 1 } else { 0 };
+        let probes = self.probes(address, length) + extra;
+        found * 2u64.pow(40) + hop * 2u64.pow(16) + length as u64 * 2u64.pow(8) + probes
+    }
+
+    /// One bit for each length at which the stored routes cover the address.
+    pub fn vector(&self, address: u32) -> u64 {
+        let bit = |length: u32| 2u64.pow(if self.is(Slip::PaperVectorBitL) { length } else { length - 1 });
+        (1..=32).filter(|length| self.covered(*length, address)).map(bit).sum()
+    }
+
+    /// K for each route of a length that has counters.
+    pub fn counted(&self, length: u32) -> usize {
+        let all = self.is(Slip::PaperCountedAll);
+        let counted = self.list.iter().filter(|route| route.length == length || all);
+        match self.slip {
+            Some(Slip::PaperCountedOnce) => counted.filter(|route| route.length > 0).count(),
+            Some(Slip::PaperCountedDistinct) => counted.map(|route| distinct(&route.positions)).sum(),
+            _ => counted.map(|route| route.positions.len()).sum(),
+        }
+    }
+
+    fn is(&self, slip: Slip) -> bool {
+        self.slip == Some(slip)
+    }
+
+    fn route(&self, prefix: u32, length: u32, hop: u32) -> Route {
+        if length == 0 {
+            return Route { prefix, length, hop, positions: Vec::new(), bucket: 0 };
+        }
+        Route { prefix, length, hop, positions: positions(&self.t, prefix), bucket: bucket(&self.t, prefix) }
+    }
+
+    /// Where in the list a route stands.
+    fn find(&self, prefix: u32, length: u32, any_length: Slip) -> Option<usize> {
+        let same = |route: &Route| route.length == length || self.is(any_length);
+        self.list.iter().position(|route| route.prefix == prefix && same(route))
+    }
+}
+
+/// How many different positions there are.
+fn distinct(positions: &[usize]) -> usize {
+    let mut once = positions.to_vec();
+    once.sort();
+    once.dedup();
+    once.len()
+}
+
+// ---- Updates ----
+
+impl Routes {
+    fn clear(&mut self) -> u64 {
+        if !self.is(Slip::PaperClearKeeps) {
+            self.list.clear();
+            self.gone.clear();
         }
         0
     }
 
-    /// Whether each position of the address at a length is a position of a stored route of that length.
-    fn claimed(&self, length: u32, address: u32) -> bool {
-        self.of_length(length).next().is_some()
-            && positions(&self.t, prefix(length, address))
-                .all(|at| self.of_length(length).any(|route| route.positions.contains(&at)))
+    fn add(&mut self, prefix: u32, length: u32, hop: u32) -> u64 {
+        let new = self.route(prefix, length, hop);
+        if let Some(at) = self.find(prefix, length, Slip::PaperSixByPrefix) {
+            match self.slip {
+                Some(Slip::PaperSixUnasked) => (),
+                Some(Slip::PaperAddReplaces) => {
+                    self.list[at].hop = hop;
+                    return 0;
+                }
+                _ => return 6,
+            }
+        }
+        let refusal = self.room(&new);
+        if refusal == 0 || self.is(Slip::PaperRefusedListed) {
+            self.list.push(new);
+        }
+        refusal
     }
 
-    /// What a lookup must answer.
-    pub fn lookup(&self, address: u32) -> u64 {
-        let matching = self.list.iter().filter(|route| prefix(route.length, address) == route.prefix);
-        let longest = match self.slip {
-            Some(Slip::ListShortest) => matching.min_by_key(|route| route.length),
-            _ => matching.max_by_key(|route| route.length),
-        };
-        let down_to = match (self.slip, longest) {
-            (Some(Slip::ListProbesToOne), _) | (_, None) => 1,
-            (_, Some(route)) => route.length.max(1),
-        };
-        let probes = (down_to..=32).filter(|length| self.claimed(*length, address)).count() as u64;
-        match longest {
-            Some(route) => (1 << 40) + (u64::from(route.hop) << 16) + (u64::from(route.length) << 8) + probes,
-            None => probes,
+    /// 8 or 9 if the table has no place for a new route, else 0.
+    fn room(&self, new: &Route) -> u64 {
+        let full = new.length >= 1 && self.full(new);
+        let over = new.length >= 1 && self.over(new);
+        match self.slip {
+            Some(Slip::PaperRoomBeforeFull) if over => 9,
+            _ if full => 8,
+            _ if over => 9,
+            _ => 0,
         }
     }
 
-    /// What a match vector must answer.
-    pub fn vector(&self, address: u32) -> u64 {
-        (1..=32).filter(|length| self.claimed(*length, address)).map(|length| 1 << (length - 1)).sum()
+    /// Whether as many routes as a bucket has slots share length and bucket with the new one.
+    fn full(&self, new: &Route) -> bool {
+        let most = match self.slip {
+            Some(Slip::PaperFullEarly) => self.t.s as usize - 1,
+            Some(Slip::PaperFullLate) => self.t.s as usize + 1,
+            _ => self.t.s as usize,
+        };
+        let same = |route: &&Route| {
+            let beside = route.bucket == new.bucket || self.is(Slip::PaperFullByLength);
+            route.length == new.length && beside
+        };
+        let freed = if self.is(Slip::PaperFreedTaken) { self.gone.iter().filter(same).count() } else { 0 };
+        self.list.iter().filter(same).count() + freed >= most
     }
 
-    /// What the counters of a length must sum to.
-    pub fn counted(&self, length: u32) -> usize {
-        self.of_length(length).count() * self.t.k as usize
+    /// Whether some position of the new route, with the hits there already, would have more than 15.
+    fn over(&self, new: &Route) -> bool {
+        let most = match self.slip {
+            Some(Slip::PaperRoomTo14) => 14,
+            Some(Slip::PaperRoomTo16) => 16,
+            _ => 15,
+        };
+        let hits = |route: &Route, j: usize| match self.slip {
+            Some(Slip::PaperRoomOnce) => route.hits(j).min(1),
+            _ => route.hits(j),
+        };
+        let any_length = self.is(Slip::PaperRoomAnyLength);
+        let beside = || self.list.iter().filter(|route| route.length == new.length || any_length);
+        let sum = |j: usize| beside().map(|route| hits(route, j)).sum::<usize>() + hits(new, j);
+        new.positions.iter().any(|j| sum(*j) > most)
+    }
+
+    fn withdraw(&mut self, prefix: u32, length: u32) -> u64 {
+        match self.find(prefix, length, Slip::PaperWithdrawAnyLength) {
+            Some(_) if self.is(Slip::PaperWithdrawKeeps) => 0,
+            Some(at) => {
+                let route = self.list.remove(at);
+                if self.is(Slip::PaperFreedTaken) {
+                    self.gone.push(route);
+                }
+                0
+            }
+            None if self.is(Slip::PaperSevenUnasked) => 0,
+            None => 7,
+        }
+    }
+
+    fn change(&mut self, prefix: u32, length: u32, hop: u32) -> u64 {
+        match self.find(prefix, length, Slip::PaperWithdrawAnyLength) {
+            Some(_) if self.is(Slip::PaperChangeKeeps) => 0,
+            Some(at) => {
+                self.list[at].hop = hop;
+                0
+            }
+            None if self.is(Slip::PaperSevenUnasked) => 0,
+            None => 7,
+        }
+    }
+}
+
+// ---- Questions ----
+
+impl Routes {
+    fn matches(&self, route: &Route, address: u32) -> bool {
+        let compared = match self.slip {
+            Some(Slip::PaperBitFewer) => route.length.saturating_sub(1),
+            _ => route.length,
+        };
+        prefix(compared, address) == prefix(compared, route.prefix)
+    }
+
+    /// How many lengths, from 32 down to the answer's (or to 1), are covered.
+    fn probes(&self, address: u32, length: u32) -> u64 {
+        let last = match self.slip {
+            Some(Slip::PaperProbesToOne) => 1,
+            Some(Slip::PaperProbesAbove) => length + 1,
+            _ => length.max(1),
+        };
+        (last..=32).filter(|length| self.covered(*length, address)).count() as u64
+    }
+
+    /// Whether each position of the address at a length belongs to some stored route of that length.
+    fn covered(&self, length: u32, address: u32) -> bool {
+        let p = prefix(length, address);
+        let any_length = self.is(Slip::PaperProbesAnyLength);
+        let stored = || self.list.iter().filter(|route| route.length == length || any_length);
+        let asked = positions(&self.t, p);
+        let owned = |j: &usize| stored().any(|route| route.positions.contains(j));
+        match self.slip {
+            Some(Slip::PaperProbesInUse) => stored().count() > 0,
+            Some(Slip::PaperProbesStored) => stored().any(|route| route.prefix == p),
+            Some(Slip::PaperProbesFirst) => asked.iter().take(1).all(owned),
+            Some(Slip::PaperProbesOneRoute) => {
+                stored().any(|route| asked.iter().all(|j| route.positions.contains(j)))
+            }
+            _ => asked.iter().all(owned),
+        }
     }
 }

@@ -1,119 +1,155 @@
-//! The rules of the table, written from docs/TABLE.md: what one call answers and what
-//! it leaves in the memory lent to it.
+//! One call on lent memory, sound or damaged: what it answers and what it leaves behind.
+//!
+//! Where a `match` on the slip stands, the arm `_` is the right rule and the arms before it are wrong on
+//! purpose; of `or(right, slip, wrong)` the first value is right. Memory is reached through checked places,
+//! so that a slip gone astray reads zero and writes nothing.
 
-use crate::slips::Slip;
+use super::calls::{Call, Lent, Settings};
+use super::slips::{swapped, unasked, Slip};
 
-/// The seven numbers of a table.
-#[derive(Clone, Copy, Debug, PartialEq, Eq)]
-pub struct Settings {
-    pub k: u32,
-    pub d: u32,
-    pub e: u32,
-    pub s: u32,
-    pub a: u32,
-    pub b: u32,
-    pub c: u32,
-}
-
-/// The settings of the small table of docs/TABLE.md, which the text program has too.
+/// The settings of the small worked table.
 pub const T: Settings = Settings { k: 2, d: 4, e: 1, s: 2, a: 1, b: 2, c: 1 };
 
-/// One call, with what it is asked beside settings and memory.
-#[derive(Clone, Copy, Debug)]
-pub enum Call {
-    Clear,
-    Add { prefix: u32, length: u32, hop: u32 },
-    Withdraw { prefix: u32, length: u32 },
-    Change { prefix: u32, length: u32, hop: u32 },
-    Vector { address: u32 },
-    Lookup { address: u32 },
+/// 2^n, held at the greatest 64-bit number (which only bad settings reach).
+fn two_to(n: u32) -> u64 {
+    2u64.saturating_pow(n)
 }
 
-/// How much memory a call says that it lends: bytes of counters; slots in words, or in bytes to a
-/// question.
-#[derive(Clone, Copy, Debug)]
-pub struct Lent {
-    pub counters: usize,
-    pub slots: usize,
+/// x·y modulo 2^32.
+fn product(x: u32, y: u32) -> u64 {
+    x as u64 * y as u64 % two_to(32)
 }
 
-/// What is left of a number that has passed 2^32.
-fn wrap(n: u64) -> u64 {
-    n % (1 << 32)
-}
+// ---- Prefix, positions, bucket ----
 
-fn product(multiplier: u32, p: u32) -> u64 {
-    wrap(u64::from(multiplier) * u64::from(p))
-}
-
-/// The address with its last 32 - length bits cleared.
+/// The first `length` bits of an address, zeros after them.
 pub fn prefix(length: u32, address: u32) -> u32 {
-    let unit = 1u64 << (32 - length);
-    (u64::from(address) / unit * unit) as u32
+    cut(length, address, None)
 }
 
-/// The K filter positions of a prefix.
-pub fn positions(t: &Settings, p: u32) -> impl Iterator<Item = usize> {
-    let unit = 1u64 << (32 - t.d);
-    let growth = product(t.b, p);
-    let mut g = product(t.a, p);
-    (0..t.k).map(move |_| {
-        let position = g / unit;
-        g = wrap(g + growth);
-        position as usize
-    })
+fn cut(length: u32, address: u32, slip: Option<Slip>) -> u32 {
+    let kept = match slip {
+        Some(Slip::PrefixBitMore) => length.saturating_add(1).min(32),
+        Some(Slip::PrefixBitFewer) => length.saturating_sub(1),
+        Some(Slip::PrefixUncut) => 32,
+        Some(Slip::PrefixOtherEnd) => 32u32.saturating_sub(length),
+        Some(Slip::PrefixShift32) if length == 0 => 32,
+        _ => length,
+    };
+    // Only a slip asks about more than 32 bits; it then clears 31, as shifting by minus one does.
+    let unit = two_to(32u32.checked_sub(kept).unwrap_or(31));
+    (address as u64 / unit * unit) as u32
+}
+
+/// The K filter positions of a prefix, in the order of the steps.
+pub fn positions(t: &Settings, p: u32) -> Vec<usize> {
+    steps(t, p, None)
+}
+
+fn steps(t: &Settings, p: u32, slip: Option<Slip>) -> Vec<usize> {
+    let (a, b) = if slip == Some(Slip::AAndBSwapped) { (t.b, t.a) } else { (t.a, t.b) };
+    let top = two_to(32) - 1;
+    let stride = match slip {
+        Some(Slip::StrideIsB) => b as u64,
+        Some(Slip::StrideSticks) => top.min(b as u64 * p as u64),
+        _ => product(b, p),
+    };
+    let mut g = match slip {
+        Some(Slip::StartIsA) => a as u64,
+        Some(Slip::StartStepLate) => (product(a, p) + stride) % two_to(32),
+        Some(Slip::StartSticks) => top.min(a as u64 * p as u64),
+        _ => product(a, p),
+    };
+    let count = match slip {
+        Some(Slip::StepFewer) => t.k.saturating_sub(1),
+        Some(Slip::StepMore) => t.k + 1,
+        _ => t.k,
+    };
+    let mut found = Vec::new();
+    for _ in 0..count {
+        found.push(position(t, g, slip) as usize);
+        g = match slip {
+            Some(Slip::SumSticks) => top.min(g + stride),
+            Some(Slip::SumUnwrapped) => g + stride,
+            _ => (g + stride) % two_to(32),
+        };
+    }
+    found
+}
+
+/// The position that one value of g gives.
+fn position(t: &Settings, g: u64, slip: Option<Slip>) -> u64 {
+    match slip {
+        Some(Slip::PositionLowBits) => g % two_to(t.d),
+        Some(Slip::PositionBitFewer) => g / two_to(33 - t.d),
+        Some(Slip::PositionRoundedUp) => g.div_ceil(two_to(32 - t.d)),
+        _ => g / two_to(32 - t.d),
+    }
 }
 
 /// The bucket of a prefix.
 pub fn bucket(t: &Settings, p: u32) -> usize {
-    (product(t.c, p) / (1u64 << (32 - t.e))) as usize
+    bucket_of(t, p, None) as usize
 }
 
-pub fn occupied(mark: u32) -> bool {
-    (1..=65_536).contains(&mark)
-}
-
-impl Settings {
-    pub fn in_range(&self) -> bool {
-        (1..=8).contains(&self.k)
-            && (4..=11).contains(&self.d)
-            && (0..=8).contains(&self.e)
-            && (1..=8).contains(&self.s)
-    }
-
-    /// Bytes of counters; the settings must be in range.
-    pub fn bytes(&self) -> usize {
-        32 * (1 << self.d)
-    }
-
-    /// Words of slots; the settings must be in range.
-    pub fn words(&self) -> usize {
-        64 * (1 << self.e) * self.s as usize + 1
-    }
-
-    /// The number of the first slot of a prefix's bucket.
-    pub fn first_slot(&self, length: u32, p: u32) -> usize {
-        ((length as usize - 1) * (1 << self.e) + bucket(self, p)) * self.s as usize
-    }
-
-    /// The byte of a counter.
-    pub fn counter(&self, length: u32, position: usize) -> usize {
-        (length as usize - 1) * (1 << self.d) + position
+fn bucket_of(t: &Settings, p: u32, slip: Option<Slip>) -> u64 {
+    let mixed = match slip {
+        Some(Slip::BucketByA) => product(t.a, p),
+        Some(Slip::BucketUnmixed) => p as u64,
+        Some(Slip::BucketUnwrapped) => t.c as u64 * p as u64,
+        _ => product(t.c, p),
+    };
+    match slip {
+        Some(Slip::BucketLowBits) => mixed % two_to(t.e),
+        Some(Slip::BucketRoundedUp) => mixed.div_ceil(two_to(32 - t.e)),
+        Some(Slip::BucketShift32) if t.e == 0 => mixed,
+        _ => mixed / two_to(32 - t.e),
     }
 }
 
-impl Call {
-    /// How many units of slot memory a word is to this call.
-    pub fn units(&self) -> usize {
-        match self {
-            Call::Vector { .. } | Call::Lookup { .. } => 4,
-            _ => 1,
-        }
+// ---- Sizes and places ----
+
+/// How many counters, one byte each.
+pub fn counter_bytes(t: &Settings) -> usize {
+    32u64.saturating_mul(two_to(t.d)) as usize
+}
+
+/// How many words of slot memory, the default's mark included.
+pub fn slot_words(t: &Settings) -> usize {
+    64u64.saturating_mul(two_to(t.e)).saturating_mul(t.s as u64).saturating_add(1) as usize
+}
+
+/// The byte of one counter.
+pub fn counter_at(t: &Settings, length: u32, position: usize) -> usize {
+    counter_of(t, length, position, None) as usize
+}
+
+fn counter_of(t: &Settings, length: u32, position: usize, slip: Option<Slip>) -> u64 {
+    let (row, j) = (length as u64 - 1, position as u64);
+    match slip {
+        Some(Slip::CounterRowL) => (row + 1) * two_to(t.d) + j,
+        Some(Slip::CounterColumns) => j * 32 + row,
+        _ => row * two_to(t.d) + j,
     }
 }
 
-/// Does a call: gives its answer as one number and changes the memory. The lists may be longer than
-/// what is lent; nothing after that is touched.
+/// The number of slot 0 in the bucket of a prefix.
+pub fn first_slot(t: &Settings, length: u32, p: u32) -> usize {
+    first_of(t, length, p, None) as usize
+}
+
+fn first_of(t: &Settings, length: u32, p: u32, slip: Option<Slip>) -> u64 {
+    let (row, b, s) = (length as u64 - 1, bucket_of(t, p, slip), t.s as u64);
+    match slip {
+        Some(Slip::SlotRowL) => ((row + 1) * two_to(t.e) + b) * s,
+        Some(Slip::SlotByBucket) => (b * 32 + row) * s,
+        _ => (row * two_to(t.e) + b) * s,
+    }
+}
+
+// ---- One call ----
+
+/// Does one call and gives its answer as one number.
 pub fn answer(
     t: &Settings,
     counters: &mut [u8],
@@ -122,284 +158,621 @@ pub fn answer(
     call: Call,
     slip: Option<Slip>,
 ) -> u64 {
-    if !t.in_range() {
-        return refused(1);
+    let bytes = counters.len().min(lent.counters).min(counter_bytes(t));
+    let words = slots.len().min(lent.slots / call.units()).min(slot_words(t));
+    let mut table = Table { t: *t, counters: &mut counters[..bytes], slots: &mut slots[..words], slip };
+    let asked = Asked::of(call, slip);
+    let numbers = numbers(call, slip);
+    if let Some(refusal) = numbers.into_iter().find(|number| table.given(*number, lent, call, asked)) {
+        table.begun(refusal, call, asked);
+        return table.refused(refusal, call);
     }
-    if lent.counters != t.bytes() || lent.slots != call.units() * t.words() {
-        return refused(2);
-    }
-    let mut table = Table { t, counters: &mut counters[..t.bytes()], slots: &mut slots[..t.words()], slip };
+    let Asked { p, length, hop } = asked;
     match call {
+        Call::Vector { address } => return table.vector(address),
+        Call::Lookup { address } => return table.lookup(address),
+        _ if slip == Some(Slip::ShamWritesNothing) => (),
         Call::Clear => table.clear(),
-        Call::Add { prefix, length, hop } => refused(table.add(prefix, length, hop)),
-        Call::Withdraw { prefix, length } => refused(table.withdraw(prefix, length)),
-        Call::Change { prefix, length, hop } => refused(table.change(prefix, length, hop)),
-        Call::Vector { address } => u64::from(table.vector(address)),
-        Call::Lookup { address } => table.lookup(address),
+        Call::Add { .. } => table.add(p, length, hop),
+        Call::Withdraw { .. } => table.withdraw(p, length),
+        Call::Change { .. } => table.change(p, length, hop),
+    }
+    0
+}
+
+/// What an update is about; zeros for the other calls.
+#[derive(Clone, Copy)]
+struct Asked {
+    p: u32,
+    length: u32,
+    hop: u32,
+}
+
+impl Asked {
+    fn of(call: Call, slip: Option<Slip>) -> Asked {
+        let (p, length, hop) = match call {
+            Call::Add { prefix, length, hop } | Call::Change { prefix, length, hop } => (prefix, length, hop),
+            Call::Withdraw { prefix, length } => (prefix, length, 0),
+            _ => (0, 0, 0),
+        };
+        match slip {
+            Some(Slip::LengthLowByte) => Asked { p, length: length % 256, hop },
+            Some(Slip::HopLow16Bits) => Asked { p, length, hop: hop % 65_536 },
+            Some(Slip::BitsDropped) if length <= 32 => Asked { p: prefix(length, p), length, hop },
+            _ => Asked { p, length, hop },
+        }
     }
 }
 
-fn refused(number: u64) -> u64 {
-    number << 48
+/// The refusals that a call can get, in the order in which they are asked.
+fn numbers(call: Call, slip: Option<Slip>) -> Vec<u64> {
+    let mut order = match call {
+        Call::Clear | Call::Vector { .. } | Call::Lookup { .. } => vec![1, 2],
+        Call::Add { .. } => vec![1, 2, 3, 4, 5, 6, 8, 9],
+        Call::Withdraw { .. } => vec![1, 2, 3, 4, 7, 10],
+        Call::Change { .. } => vec![1, 2, 3, 4, 5, 7],
+    };
+    let (one, other) = swapped(slip);
+    let place = |number: u64| order.iter().position(|n| *n == number);
+    if let (Some(x), Some(y)) = (place(one), place(other)) {
+        order.swap(x, y);
+    }
+    order.retain(|number| *number != unasked(call, slip));
+    order
 }
 
-fn found(mark: u32, length: u32, probes: u64) -> u64 {
-    (1 << 40) + (u64::from(mark - 1) << 16) + (u64::from(length) << 8) + probes
-}
-
-/// Lent memory of the right size.
+/// The lent memory, as long as the settings ask and no longer, with the settings it is read by.
 struct Table<'a> {
-    t: &'a Settings,
+    t: Settings,
     counters: &'a mut [u8],
     slots: &'a mut [u32],
     slip: Option<Slip>,
 }
 
+// ---- Refusals ----
+
 impl Table<'_> {
-    fn slips(&self, slip: Slip) -> bool {
+    fn is(&self, slip: Slip) -> bool {
         self.slip == Some(slip)
     }
 
-    fn occupied(&self, mark: u32) -> bool {
-        occupied(mark) || self.slips(Slip::MarkOneMore) && mark == 65_537
-    }
-
-    fn first_slot(&self, length: u32, p: u32) -> usize {
-        if self.slips(Slip::BucketShift) && self.t.e == 0 {
-            let bucket = product(self.t.c, p) as usize;
-            let buckets = 32 - length as usize + 1;
-            return (length as usize - 1 + bucket % buckets) * self.t.s as usize;
+    /// The right value, or the wrong one if the slip named is at work.
+    fn or<V>(&self, right: V, slip: Slip, wrong: V) -> V {
+        if self.is(slip) {
+            wrong
+        } else {
+            right
         }
-        self.t.first_slot(length, p)
     }
 
-    /// The numbers of the slots of a prefix's bucket, from the lowest.
-    fn slots_of(&self, length: u32, p: u32) -> std::ops::Range<usize> {
-        let first = self.first_slot(length, p);
-        first..first + self.t.s as usize
-    }
-
-    fn mark(&self, slot: usize) -> u32 {
-        self.slots[2 * slot + 1]
-    }
-
-    /// The lowest slot of the bucket that is occupied and holds the prefix.
-    fn held(&self, length: u32, p: u32) -> Option<usize> {
-        let holds = |slot: &usize| self.occupied(self.mark(*slot)) && self.slots[2 * slot] == p;
-        let mut slots = self.slots_of(length, p);
-        if self.slips(Slip::HighestHeld) {
-            return slots.rev().find(holds);
+    /// Whether what a refusal's number stands for is so.
+    fn given(&self, number: u64, lent: Lent, call: Call, asked: Asked) -> bool {
+        let Asked { p, length, hop } = asked;
+        let from_one = |slip: Slip| length >= 1 || self.is(slip);
+        match number {
+            1 => self.settings_bad(),
+            2 => self.sizes_wrong(lent, call),
+            3 => self.too_long(length),
+            4 => self.bit_after(p, length),
+            5 => self.hop_too_big(hop),
+            6 => self.stored(p, length, call),
+            7 => !self.stored(p, length, call),
+            8 if self.is(Slip::ShamRefusesAdds) => true,
+            8 => from_one(Slip::DefaultAsksBucket) && self.full(p, length.max(1)),
+            9 => from_one(Slip::DefaultAsksRoom) && self.no_room(p, length.max(1)),
+            _ => from_one(Slip::DefaultAsksHits) && self.too_few(p, length.max(1)),
         }
-        if self.slips(Slip::FreeEnds) {
-            return slots.take_while(|slot| self.occupied(self.mark(*slot))).find(holds);
+    }
+
+    fn settings_bad(&self) -> bool {
+        let end = |right: u32, lower: Slip, higher: Slip| match self.slip {
+            Some(slip) if slip == lower => right - 1,
+            Some(slip) if slip == higher => right + 1,
+            _ => right,
+        };
+        let outside = |value: u32, least: u32, most: u32| value < least || value > most;
+        let Settings { k, d, e, s, a, b, c } = self.t;
+        outside(k, end(1, Slip::KFrom0, Slip::KFrom2), end(8, Slip::KTo7, Slip::KTo9))
+            || outside(d, end(4, Slip::DFrom3, Slip::DFrom5), end(11, Slip::DTo10, Slip::DTo12))
+            || outside(e, self.or(0, Slip::EFrom1, 1), end(8, Slip::ETo7, Slip::ETo9))
+            || outside(s, end(1, Slip::SFrom0, Slip::SFrom2), end(8, Slip::STo7, Slip::STo9))
+            || self.is(Slip::ZeroMultiplierBad) && (a == 0 || b == 0 || c == 0)
+    }
+
+    fn sizes_wrong(&self, lent: Lent, call: Call) -> bool {
+        let units = self.or(call.units(), Slip::SlotsBytesAsWords, 1);
+        let words = slot_words(&self.t) - self.or(0, Slip::SlotsNoDefault, 1);
+        let slots = words.saturating_mul(units);
+        let rows = self.or(32, Slip::CountersRowMore, 33);
+        let counters = counter_bytes(&self.t) / 32 * rows;
+        match self.slip {
+            Some(Slip::CountersLonger) => lent.counters < counters || lent.slots != slots,
+            Some(Slip::CountersShorter) => lent.counters > counters || lent.slots != slots,
+            Some(Slip::SlotsLonger) => lent.counters != counters || lent.slots < slots,
+            Some(Slip::SlotsShorter) => lent.counters != counters || lent.slots > slots,
+            Some(Slip::SlotsBytesRounded) => lent.counters != counters || lent.slots / units != words,
+            _ => lent.counters != counters || lent.slots != slots,
         }
-        slots.find(holds)
     }
 
-    /// The lowest free slot of the bucket.
-    fn vacant(&self, length: u32, p: u32) -> Option<usize> {
-        let mut slots = self.slots_of(length, p);
-        if self.slips(Slip::HighestFree) {
-            return slots.rev().find(|slot| !self.occupied(self.mark(*slot)));
+    fn too_long(&self, length: u32) -> bool {
+        match self.slip {
+            Some(Slip::LengthTo31) => length > 31,
+            Some(Slip::LengthTo33) => length > 33,
+            _ => length > 32,
         }
-        slots.find(|slot| !self.occupied(self.mark(*slot)))
     }
 
-    fn default_mark(&mut self) -> &mut u32 {
-        self.slots.last_mut().expect("the slots have a last word")
+    fn bit_after(&self, p: u32, length: u32) -> bool {
+        match self.slip {
+            Some(Slip::BitFirstOnly) if length < 32 => prefix(length, p) != prefix(length + 1, p),
+            Some(Slip::BitLength32) if length == 32 => p != 0,
+            _ => self.cut(length, p) != p,
+        }
     }
 
-    fn stored(&mut self, length: u32, p: u32) -> bool {
+    fn hop_too_big(&self, hop: u32) -> bool {
+        match self.slip {
+            Some(Slip::HopTo65534) => hop > 65_534,
+            Some(Slip::HopTo65536) => hop > 65_536,
+            _ => hop > 65_535,
+        }
+    }
+
+    /// Whether some occupied slot of its bucket holds the prefix; for length 0, whether there is a default.
+    fn stored(&self, p: u32, length: u32, call: Call) -> bool {
         if length == 0 {
-            let mark = *self.default_mark();
-            return self.occupied(mark);
+            return self.default_hop().is_some();
         }
-        self.held(length, p).is_some()
+        let claimed = match (self.slip, call) {
+            (Some(Slip::AddAsksFilter), Call::Add { .. }) => self.claimed(length, p),
+            (Some(Slip::WithdrawAsksFilter), Call::Withdraw { .. }) => self.claimed(length, p),
+            (Some(Slip::ChangeAsksFilter), Call::Change { .. }) => self.claimed(length, p),
+            _ => true,
+        };
+        claimed && !self.holding(length, p).is_empty()
     }
 
-    /// The bytes of the K counters of a prefix, one to a step.
-    fn steps(&self, length: u32, p: u32) -> Vec<usize> {
-        if self.slips(Slip::NoWrap) {
-            let (g, growth) = (product(self.t.a, p), product(self.t.b, p));
-            let top = (1u64 << 32) - 1;
-            return (0..u64::from(self.t.k))
-                .map(|i| ((g + i * growth).min(top) >> (32 - self.t.d)) as usize)
-                .map(|position| self.t.counter(length, position))
-                .collect();
+    fn full(&self, p: u32, length: u32) -> bool {
+        match self.slip {
+            Some(Slip::FullOneEarly) => self.free(length, p).len() <= 1,
+            _ => self.free(length, p).is_empty(),
         }
-        positions(self.t, p).map(|position| self.t.counter(length, position)).collect()
     }
 
-    /// Whether some counter of these steps, beside its hits by them, meets the test.
-    fn some(&self, steps: &[usize], test: impl Fn(usize, usize) -> bool) -> bool {
-        steps.iter().any(|at| {
-            let hits = steps.iter().filter(|other| *other == at).count();
-            test(usize::from(self.counters[*at]), hits)
+    /// Whether some counter that the prefix hits would pass 15.
+    fn no_room(&self, p: u32, length: u32) -> bool {
+        let most = match self.slip {
+            Some(Slip::RoomTo14) => 14,
+            Some(Slip::RoomTo16) => 16,
+            _ => 15,
+        };
+        let hit = self.steps(p);
+        let wanted = |j: usize| match self.slip {
+            Some(Slip::RoomWithoutHits) => 1,
+            Some(Slip::RoomSeesRaised) if Some(&j) == hit.first() => hits(&hit, j) + 1,
+            _ => hits(&hit, j),
+        };
+        let over = |j: usize| self.counter(length, j) + wanted(j) > most;
+        match self.slip {
+            Some(Slip::RoomFirstOnly) => hit.iter().take(1).any(|j| over(*j)),
+            Some(Slip::RoomEverywhere) => (0..two_to(self.t.d)).any(|j| over(j as usize)),
+            _ => hit.iter().any(|j| over(*j)),
+        }
+    }
+
+    /// Whether some counter that the prefix hits holds less than its hits.
+    fn too_few(&self, p: u32, length: u32) -> bool {
+        let hit = self.steps(p);
+        hit.iter().any(|j| match self.slip {
+            Some(Slip::HitsOne) => self.counter(length, *j) < 1,
+            Some(Slip::HitsOneMore) => self.counter(length, *j) <= hits(&hit, *j),
+            _ => self.counter(length, *j) < hits(&hit, *j),
         })
     }
 
-    /// 3 and 4, or 0.
-    fn route_refusal(&self, p: u32, length: u32) -> u64 {
-        if self.slips(Slip::HostBitFirst) && length > 32 && prefix(length % 32, p) != p {
-            return 4;
+    /// Slips only: what a call had written before it was refused.
+    fn begun(&mut self, refusal: u64, call: Call, asked: Asked) {
+        let Asked { p, length, hop } = asked;
+        match (self.slip, refusal, call) {
+            (Some(Slip::ClearLate), _, Call::Clear) => self.clear(),
+            _ if length == 0 => (),
+            (Some(Slip::FullLate), 8, _) | (Some(Slip::RoomLate), 9, _) => {
+                for j in self.steps(p).into_iter().take(1) {
+                    self.set_counter(length, j, self.counter(length, j) + 1);
+                }
+            }
+            (Some(Slip::RoomSlotLate), 9, _) => self.fill(length, p, hop),
+            (Some(Slip::UnstoredLate), 7, Call::Withdraw { .. }) => self.lower(length, p),
+            (Some(Slip::HitsLate), 10, _) => self.empty(length, p),
+            _ => (),
         }
-        if length > 32 {
-            return 3;
-        }
-        if self.slips(Slip::LengthShift) && length == 0 {
-            return 0;
-        }
-        if prefix(length, p) != p {
-            return 4;
-        }
-        0
+    }
+}
+
+/// How often a position occurs among the steps.
+fn hits(steps: &[usize], position: usize) -> u64 {
+    steps.iter().filter(|j| **j == position).count() as u64
+}
+
+// ---- Bytes and words ----
+
+impl Table<'_> {
+    fn cut(&self, length: u32, address: u32) -> u32 {
+        cut(length, address, self.slip)
     }
 
-    fn hop_refused(&self, hop: u32) -> bool {
-        hop > if self.slips(Slip::HopOneMore) { 65_536 } else { 65_535 }
+    fn steps(&self, p: u32) -> Vec<usize> {
+        steps(&self.t, p, self.slip)
     }
 
-    fn clear(&mut self) -> u64 {
-        self.counters.fill(0);
-        self.slots.fill(0);
-        if self.slips(Slip::ClearLeavesDefault) {
-            *self.default_mark() = 1;
-        }
-        0
+    fn counter(&self, length: u32, j: usize) -> u64 {
+        let at = counter_of(&self.t, length, j, self.slip) as usize;
+        self.counters.get(at).map_or(0, |byte| *byte as u64)
     }
 
-    fn add(&mut self, p: u32, length: u32, hop: u32) -> u64 {
-        let refusal = self.route_refusal(p, length);
-        if refusal != 0 {
-            return refusal;
+    fn set_counter(&mut self, length: u32, j: usize, value: u64) {
+        let at = counter_of(&self.t, length, j, self.slip) as usize;
+        if let Some(byte) = self.counters.get_mut(at) {
+            *byte = (value % 256) as u8;
         }
-        if self.hop_refused(hop) {
-            return 5;
+    }
+
+    fn word(&self, at: u64) -> u32 {
+        self.slots.get(at as usize).copied().unwrap_or(0)
+    }
+
+    fn set_word(&mut self, at: u64, value: u32) {
+        if let Some(word) = self.slots.get_mut(at as usize) {
+            *word = value;
         }
-        if self.stored(length, p) {
-            return 6;
+    }
+
+    /// Where slot n has its prefix and its mark.
+    fn places(&self, n: u64) -> (u64, u64) {
+        self.or((2 * n, 2 * n + 1), Slip::MarkBeforePrefix, (2 * n + 1, 2 * n))
+    }
+
+    fn held(&self, n: u64) -> u32 {
+        self.word(self.places(n).0)
+    }
+
+    fn mark(&self, n: u64) -> u32 {
+        self.word(self.places(n).1)
+    }
+
+    fn set_slot(&mut self, n: u64, p: u32, mark: u32) {
+        let (prefix_at, mark_at) = self.places(n);
+        self.set_word(prefix_at, p);
+        self.set_word(mark_at, mark);
+    }
+
+    /// The hop of an occupied mark; nothing for a free one.
+    fn hop(&self, mark: u32) -> Option<u64> {
+        let (least, most) = match self.slip {
+            Some(Slip::Mark0Occupied) => (0, 65_536),
+            Some(Slip::Mark1Free) => (2, 65_536),
+            Some(Slip::Mark65536Free) => (1, 65_535),
+            Some(Slip::Mark65537Occupied) => (1, 65_537),
+            Some(Slip::MarkNonzeroOccupied) => (1, u32::MAX),
+            _ => (1, 65_536),
+        };
+        let hop = self.or(mark.wrapping_sub(1), Slip::HopIsMark, mark);
+        if least <= mark && mark <= most {
+            Some(hop as u64)
+        } else {
+            None
+        }
+    }
+
+    /// The mark that stands for a hop.
+    fn marked(&self, hop: u32) -> u32 {
+        self.or(hop.wrapping_add(1), Slip::MarkIsHop, hop)
+    }
+
+    /// Which word holds the default's mark.
+    fn default_at(&self) -> u64 {
+        let words = slot_words(&self.t) as u64;
+        match self.slip {
+            Some(Slip::DefaultWordFirst) => 0,
+            Some(Slip::DefaultWordBefore) => words.saturating_sub(2),
+            _ => words - 1,
+        }
+    }
+
+    fn default_hop(&self) -> Option<u64> {
+        let mark = self.word(self.default_at());
+        match self.slip {
+            Some(Slip::DefaultNonzero) if mark != 0 => Some(mark as u64 - 1),
+            _ => self.hop(mark),
+        }
+    }
+
+    /// The slots of a prefix's bucket, lowest first.
+    fn bucket_slots(&self, length: u32, p: u32) -> std::ops::Range<u64> {
+        let first = first_of(&self.t, length, p, self.slip);
+        first..first + self.t.s as u64
+    }
+
+    /// The occupied slots of the bucket that hold the prefix, lowest first.
+    fn holding(&self, length: u32, p: u32) -> Vec<u64> {
+        let own = self.bucket_slots(length, p);
+        let searched = match self.slip {
+            Some(Slip::SearchWholeLength) => {
+                let row = two_to(self.t.e) * self.t.s as u64;
+                (length as u64 - 1) * row..length as u64 * row
+            }
+            Some(Slip::SearchFirstSlot) => own.start..own.end.min(own.start + 1),
+            Some(Slip::SearchLastMissed) => own.start..own.end - 1,
+            Some(Slip::SearchStopsAtFree) => {
+                own.start..self.free(length, p).first().copied().unwrap_or(own.end)
+            }
+            _ => own,
+        };
+        searched
+            .filter(|n| self.hop(self.mark(*n)).is_some() || self.is(Slip::SearchUnmarked))
+            .filter(|n| self.held(*n) == p || self.is(Slip::SearchAnyPrefix))
+            .collect()
+    }
+
+    /// The free slots of the bucket, lowest first.
+    fn free(&self, length: u32, p: u32) -> Vec<u64> {
+        self.bucket_slots(length, p)
+            .filter(|n| match self.slip {
+                Some(Slip::FreeOnlyZero) => self.mark(*n) == 0,
+                _ => self.hop(self.mark(*n)).is_none(),
+            })
+            .collect()
+    }
+
+    /// The lowest of some slots; with the named slip, the highest.
+    fn lowest(&self, slots: Vec<u64>, highest: Slip) -> Option<u64> {
+        self.or(slots.first(), highest, slots.last()).copied()
+    }
+}
+
+// ---- Clear and the updates ----
+
+impl Table<'_> {
+    fn clear(&mut self) {
+        let bytes = match self.slip {
+            Some(Slip::ClearKeepsCounters) => 0,
+            Some(Slip::ClearKeepsLastCounter) => self.counters.len().saturating_sub(1),
+            _ => self.counters.len(),
+        };
+        let words = match self.slip {
+            Some(Slip::ClearKeepsSlots) => 0,
+            Some(Slip::ClearKeepsDefault) => self.slots.len().saturating_sub(1),
+            _ => self.slots.len(),
+        };
+        self.counters[..bytes].fill(0);
+        for at in 0..words {
+            if !self.is(Slip::ClearMarksOnly) || at % 2 == 1 || at + 1 == words {
+                self.slots[at] = 0;
+            }
+        }
+    }
+
+    fn add(&mut self, p: u32, length: u32, hop: u32) {
+        if self.is(Slip::ShamFirstAddOnly) && self.slots.iter().any(|word| *word != 0) {
+            return;
         }
         if length == 0 {
-            *self.default_mark() = hop + 1;
-            return 0;
-        }
-        let mut steps = self.steps(length, p);
-        let vacant = self.vacant(length, p);
-        let passes = !self.slips(Slip::SticksAt15) && self.some(&steps, |counter, hits| counter + hits > 15);
-        if passes && self.slips(Slip::NineBeforeEight) {
-            return 9;
-        }
-        let Some(slot) = vacant else {
-            return 8;
-        };
-        if passes {
-            if self.slips(Slip::RaisedFirst) {
-                self.counters[steps[0]] = self.counters[steps[0]].wrapping_add(1);
+            if self.is(Slip::DefaultCounted) {
+                self.raise(1, p);
             }
-            return 9;
+            return self.set_default(self.marked(hop), Slip::DefaultAddUnwritten);
         }
-        self.slots[2 * slot] = p;
-        self.slots[2 * slot + 1] = hop + 1;
-        if self.slips(Slip::DoubledOnce) {
-            steps.sort_unstable();
+        if self.is(Slip::AddReplaces) && !self.holding(length, p).is_empty() {
+            return self.change(p, length, hop);
+        }
+        self.fill(length, p, hop);
+        self.raise(length, p);
+    }
+
+    fn withdraw(&mut self, p: u32, length: u32) {
+        if length == 0 {
+            return self.set_default(0, Slip::DefaultWithdrawUnwritten);
+        }
+        self.empty(length, p);
+        self.lower(length, p);
+    }
+
+    fn change(&mut self, p: u32, length: u32, hop: u32) {
+        if length == 0 {
+            return self.set_default(self.marked(hop), Slip::DefaultChangeUnwritten);
+        }
+        if let Some(n) = self.lowest(self.holding(length, p), Slip::ChangeHighest) {
+            let mark = self.or(self.marked(hop), Slip::ChangeUnwritten, self.mark(n));
+            self.set_word(self.places(n).1, mark);
+        }
+        if self.is(Slip::ChangeRaises) {
+            self.raise(length, p);
+        }
+    }
+
+    fn set_default(&mut self, mark: u32, unwritten: Slip) {
+        if !self.is(unwritten) {
+            self.set_word(self.default_at(), mark);
+        }
+    }
+
+    /// Puts a route into the lowest free slot of its bucket.
+    fn fill(&mut self, length: u32, p: u32, hop: u32) {
+        let spill = self.or(None, Slip::FullSpills, Some(self.bucket_slots(length, p).end));
+        if let Some(n) = self.lowest(self.free(length, p), Slip::AddHighest).or(spill) {
+            let p = self.or(p, Slip::AddPrefixUnwritten, self.held(n));
+            let mark = self.or(self.marked(hop), Slip::AddMarkUnwritten, self.mark(n));
+            self.set_slot(n, p, mark);
+        }
+    }
+
+    /// Empties the lowest slot that holds a prefix.
+    fn empty(&mut self, length: u32, p: u32) {
+        let holding = self.holding(length, p);
+        let lowest = self.lowest(holding.clone(), Slip::WithdrawHighest).into_iter().collect();
+        for n in self.or(lowest, Slip::WithdrawEverySlot, holding) {
+            match self.slip {
+                Some(Slip::WithdrawPrefixLeft) => self.set_slot(n, p, 0),
+                Some(Slip::WithdrawMarkLeft) => self.set_slot(n, 0, self.mark(n)),
+                Some(Slip::WithdrawClosesGap) => {
+                    let last = self.bucket_slots(length, p).end - 1;
+                    for m in n..last {
+                        self.set_slot(m, self.held(m + 1), self.mark(m + 1));
+                    }
+                    self.set_slot(last, 0, 0);
+                }
+                _ => self.set_slot(n, 0, 0),
+            }
+        }
+    }
+
+    /// Each step adds one to its counter.
+    fn raise(&mut self, length: u32, p: u32) {
+        for j in self.counted(p, Slip::AddDoubledOnce) {
+            let now = self.counter(length, j);
+            let next = match self.slip {
+                Some(Slip::AddCountersLeft) => now,
+                Some(Slip::AddFirstCounter) if Some(&j) != self.steps(p).first() => now,
+                Some(Slip::AddSetsOne) => 1,
+                Some(Slip::AddSticksAt15) if now >= 15 => now,
+                _ => now + 1,
+            };
+            self.set_counter(length, j, next);
+        }
+    }
+
+    /// Each step takes one from its counter.
+    fn lower(&mut self, length: u32, p: u32) {
+        for j in self.counted(p, Slip::WithdrawDoubledOnce) {
+            let now = self.counter(length, j);
+            let next = match self.slip {
+                Some(Slip::WithdrawZeroesCounters) => 0,
+                Some(Slip::WithdrawCountersLeft) => now,
+                Some(Slip::WithdrawSticksAt15) if now == 15 => 15,
+                Some(Slip::WithdrawStopsAtZero) => now.saturating_sub(1),
+                _ => now.wrapping_sub(1),
+            };
+            self.set_counter(length, j, next);
+        }
+    }
+
+    /// The steps of a prefix; with the named slip, each position once.
+    fn counted(&self, p: u32, once: Slip) -> Vec<usize> {
+        let mut steps = self.steps(p);
+        if self.is(once) {
+            steps.sort();
             steps.dedup();
         }
-        for at in steps {
-            if self.slips(Slip::SticksAt15) && self.counters[at] >= 15 {
+        steps
+    }
+}
+
+// ---- Questions ----
+
+impl Table<'_> {
+    /// Whether no counter of the prefix is zero.
+    fn claimed(&self, length: u32, p: u32) -> bool {
+        let counts = |j: &usize| match self.slip {
+            Some(Slip::VectorAboveOne) => self.counter(length, *j) > 1,
+            Some(Slip::VectorNibble) => self.counter(length, *j) % 16 != 0,
+            _ => self.counter(length, *j) != 0,
+        };
+        let steps = self.steps(p);
+        match self.slip {
+            Some(Slip::VectorAnyCounter) => steps.iter().any(counts),
+            Some(Slip::VectorFirstCounter) => steps.iter().take(1).all(counts),
+            _ => steps.iter().all(counts),
+        }
+    }
+
+    fn vector(&self, address: u32) -> u64 {
+        let lengths = match self.slip {
+            Some(Slip::VectorNo32) => 1..=31,
+            Some(Slip::VectorNo1) => 2..=32,
+            _ => 1..=32,
+        };
+        let bit = |length: u32| match self.slip {
+            Some(Slip::VectorBitL) => two_to(length),
+            Some(Slip::VectorTurned) => two_to(32 - length),
+            _ => two_to(length - 1),
+        };
+        lengths.filter(|length| self.claimed(*length, self.cut(*length, address))).map(bit).sum()
+    }
+
+    fn lookup(&self, address: u32) -> u64 {
+        let (in_bucket, made) = self.probe(address);
+        let default = self.default_hop().map(|hop| (hop, 0));
+        let route = match self.slip {
+            Some(Slip::ShamNone) => None,
+            Some(Slip::ShamDefault) => default,
+            Some(Slip::DefaultFirst) => default.or(in_bucket),
+            Some(Slip::DefaultNever) => in_bucket,
+            _ => in_bucket.or(default),
+        };
+        let probes = match (self.slip, route) {
+            (Some(Slip::ShamOneProbe), _) => 1,
+            (Some(Slip::Sham32Probes), _) => 32,
+            (Some(Slip::ProbesWithoutHit), Some((_, 1..))) => made - 1,
+            (Some(Slip::ProbesAll), _) => (0..32).map(|n| self.vector(address) / two_to(n) % 2).sum(),
+            (Some(Slip::ProbesDefault), Some((_, 0))) => made + 1,
+            (Some(Slip::ProbesZeroForDefault), Some((_, 0))) => 0,
+            (Some(Slip::ProbesZeroForNone), None) => 0,
+            _ => made,
+        };
+        match (self.slip, route) {
+            (Some(Slip::DefaultUnfound), Some((hop, 0))) => self.packed(0, hop, 0, probes),
+            (Some(Slip::LengthOneLess), Some((hop, long @ 1..))) => self.packed(1, hop, long - 1, probes),
+            (Some(Slip::NoneWithLength), None) => self.packed(0, 0, 1, probes),
+            (_, Some((hop, length))) => self.packed(1, hop, length, probes),
+            (_, None) => self.packed(0, 0, 0, probes),
+        }
+    }
+
+    /// The hop and length that a bucket gives, if one does, and the probes made.
+    fn probe(&self, address: u32) -> (Option<(u64, u64)>, u64) {
+        let vector = self.vector(address);
+        let mut lengths: Vec<u32> = (1..=32).rev().collect();
+        if self.is(Slip::LookupUpward) {
+            lengths.reverse();
+        }
+        let mut probes = 0;
+        for length in lengths {
+            let set = vector / two_to(length - 1) % 2 == 1;
+            if !set && self.is(Slip::ProbesUnclaimed) {
+                probes += 1;
+            }
+            if !set && !self.is(Slip::LookupUnfiltered) {
                 continue;
             }
-            self.counters[at] += 1;
-        }
-        0
-    }
-
-    fn withdraw(&mut self, p: u32, length: u32) -> u64 {
-        let refusal = self.route_refusal(p, length);
-        if refusal != 0 {
-            return refusal;
-        }
-        if !self.stored(length, p) {
-            return 7;
-        }
-        if length == 0 {
-            *self.default_mark() = 0;
-            return 0;
-        }
-        let steps = self.steps(length, p);
-        if self.slips(Slip::UpdatesAskFilter) && self.some(&steps, |counter, _| counter == 0) {
-            return 7;
-        }
-        let tested_once = self.slips(Slip::ShortTestedOnce);
-        if self.some(&steps, |counter, hits| counter < if tested_once { 1 } else { hits }) {
-            return 10;
-        }
-        let slot = self.held(length, p).expect("a stored prefix has its slot");
-        if !self.slips(Slip::PrefixStays) {
-            self.slots[2 * slot] = 0;
-        }
-        self.slots[2 * slot + 1] = 0;
-        for at in steps {
-            self.counters[at] = match self.slip {
-                Some(Slip::ZeroOnWithdrawal) => 0,
-                Some(Slip::ShortTestedOnce) => self.counters[at].saturating_sub(1),
-                _ => self.counters[at] - 1,
-            };
-        }
-        0
-    }
-
-    fn change(&mut self, p: u32, length: u32, hop: u32) -> u64 {
-        let refusal = self.route_refusal(p, length);
-        if refusal != 0 {
-            return refusal;
-        }
-        if self.hop_refused(hop) {
-            return 5;
-        }
-        if !self.stored(length, p) {
-            return 7;
-        }
-        if length == 0 {
-            *self.default_mark() = hop + 1;
-            return 0;
-        }
-        let slot = self.held(length, p).expect("a stored prefix has its slot");
-        self.slots[2 * slot + 1] = hop + 1;
-        if self.slips(Slip::ChangeRaises) {
-            let at = self.steps(length, p)[0];
-            self.counters[at] = self.counters[at].wrapping_add(1);
-        }
-        0
-    }
-
-    fn vector(&self, address: u32) -> u32 {
-        (1..=32)
-            .filter(|length| {
-                let steps = self.steps(*length, prefix(*length, address));
-                steps.iter().all(|at| self.counters[*at] != 0)
-            })
-            .fold(0, |vector, length| vector + (1 << (length - 1)))
-    }
-
-    fn lookup(&mut self, address: u32) -> u64 {
-        let vector = self.vector(address);
-        let mut probes = 0;
-        for length in (1..=32).rev().filter(|length| vector >> (length - 1) & 1 == 1) {
-            probes += 1;
-            if let Some(slot) = self.held(length, prefix(length, address)) {
-                return found(self.mark(slot), length, probes);
+            probes += self.or(1, Slip::ProbesSlots, self.t.s as u64);
+            let p = self.cut(length, address);
+            if let Some(n) = self.lowest(self.holding(length, p), Slip::LookupHighest) {
+                let hop = self.hop(self.mark(n)).unwrap_or(0);
+                return (Some((hop, length as u64)), probes);
             }
-            if self.slips(Slip::FirstClaimEnds) {
+            if self.is(Slip::LookupStopsAtFirst) {
                 break;
             }
         }
-        let mark = *self.default_mark();
-        if self.occupied(mark) {
-            if self.slips(Slip::DefaultProbe) {
-                probes += 1;
-            }
-            return found(mark, 0, probes);
+        (None, probes)
+    }
+
+    /// Found, hop, length and probes of a lookup as one number.
+    fn packed(&self, found: u64, hop: u64, length: u64, probes: u64) -> u64 {
+        let at = |right: u32, slip: Slip, wrong: u32| two_to(self.or(right, slip, wrong));
+        found * at(40, Slip::FoundAt32, 32)
+            + hop * at(16, Slip::HopAt24, 24)
+            + length * at(8, Slip::LengthProbesSwapped, 0)
+            + probes * at(0, Slip::LengthProbesSwapped, 8)
+    }
+
+    /// A refusal as one number, nothing beside it.
+    fn refused(&self, refusal: u64, call: Call) -> u64 {
+        match self.slip {
+            Some(Slip::RefusalAt40) => refusal * two_to(40),
+            Some(Slip::RefusedWithOne) if call.units() == 4 => refusal * two_to(48) + 1,
+            _ => refusal * two_to(48),
         }
-        probes
     }
 }

@@ -1,6 +1,6 @@
 //! What a run has seen. A run that never met a refusal or a kind of answer has compared nothing there.
 
-use crate::rules::Call;
+use crate::calls::Call;
 use std::fmt;
 
 const CALLS: [&str; 6] = ["clear", "add", "withdraw", "change", "match vector", "lookup"];

@@ -1,11 +1,12 @@
 //! The worked cases of docs/TABLE.md, with the answers that it states: they hold both the library and this
 //! program's own rules.
 
+use crate::calls::{Call, Lent, Settings};
 use crate::history::told;
 use crate::library::{Area, Library};
 use crate::pair::{Answer, Pair};
 use crate::routes::Routes;
-use crate::rules::{bucket, positions, Call, Lent, Settings, T};
+use crate::rules::{bucket, counter_at, first_slot, positions, T};
 
 fn address(a: u8, b: u8, c: u8, d: u8) -> u32 {
     u32::from_be_bytes([a, b, c, d])
@@ -74,7 +75,7 @@ impl<'a> Case<'a> {
     }
 
     fn hashes(&self, p: u32, at: [usize; 2], home: usize) -> Result<(), String> {
-        self.holds(positions(&self.t, p).eq(at) && bucket(&self.t, p) == home, "positions and bucket")
+        self.holds(positions(&self.t, p) == at && bucket(&self.t, p) == home, "positions and bucket")
     }
 }
 
@@ -88,7 +89,7 @@ pub fn run(library: &mut Library) -> Result<(), String> {
     let mut case = Case::new(library, "P3", T)?;
     case.hashes(0, [0, 0], 0)?;
     case.add(0, 8, 0, 0)?;
-    case.holds(case.pair.counter(T.counter(8, 0)) == 2, "the add raises the counter by 2")?;
+    case.holds(case.pair.counter(counter_at(&T, 8, 0)) == 2, "the add raises the counter by 2")?;
 
     let mut case = Case::new(library, "P4 to P7", T)?;
     case.add(ten, 8, 7, 0)?;
@@ -110,14 +111,14 @@ pub fn run(library: &mut Library) -> Result<(), String> {
     case.gives(Call::Withdraw { prefix: eight, length: 8 }, 0)?;
     case.lookup(ten, found(7, 8, 1))?;
     case.add(nine, 8, 7, 0)?;
-    case.holds(case.pair.word(2 * (T.first_slot(8, nine) + 1)) == nine, "9/8 lies in slot 1")?;
+    case.holds(case.pair.word(2 * (first_slot(&T, 8, nine) + 1)) == nine, "9/8 lies in slot 1")?;
 
     let zero = Settings { k: 5, d: 4, e: 0, s: 4, a: 0, b: 0, c: 0 };
     let mut case = Case::new(library, "P9", zero)?;
     for prefix in 1..=3 {
         case.add(prefix, 32, 7, 0)?;
     }
-    case.holds(case.pair.counter(zero.counter(32, 0)) == 15, "the counter is 15")?;
+    case.holds(case.pair.counter(counter_at(&zero, 32, 0)) == 15, "the counter is 15")?;
     case.add(4, 32, 7, 9)?;
 
     for (s, refusal) in [(2, 9), (1, 8)] {
