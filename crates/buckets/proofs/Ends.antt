@@ -8,9 +8,10 @@ use native.Mathlib.Omega.{arith}
 use lib.ListN.{length}
 use Rattle.rules.specs.declared.Settings.{Settings}
 use Rattle.rules.specs.declared.Place.the-variants.{At}
-use Rattle.rules.specs.Tools.{those}
+use Rattle.rules.specs.Tools.{those, lowest}
 use Rattle.rules.specs.Table.{in-range, prefix, slot-number, mark-word, mark-at, occupied, holds, free, held, vacant, found-or, down-from, bit-set, set-bits, search as searched}
 use Rattle.rules.specs.Ready.{Ready, Slots}
+use Rattle.rules.proofs.Found.{InBucket}
 use Rattle.rules.proofs.Members.{both}
 use Rattle.rules.proofs.Lowest.{some-lowest}
 use Rattle.buckets.proofs.Slots.{slot-lent}
@@ -21,9 +22,17 @@ pub record Ended (slots : List ℕ) (slot : ℕ) : Type 0 where
   pub taken : occupied (mark-at slots slot) ≡ true
 
 module _ (t : Settings) (slots : List ℕ) (sized : Slots t slots) where
-  pub vacant-lent : (L p s : ℕ) → Ready t L → vacant t slots L p ≡ some s → mark-word (slot-number t L p s) < length slots
+  -- a slot that was found in a bucket, held or vacant
+  lowest-lent : (L p : ℕ) (test : ℕ → Bool) {slot : ℕ} → Ready t L → InBucket t L p (lowest test (t .s)) slot → mark-word slot < length slots
+  lowest-lent L p test ready at = rw (at .number) (slot-lent t slots sized L p (at .s) ready (some-lowest test (t .s) (at .s) (at .there) .within))
+
+  pub held-lent : {L p slot : ℕ} → Ready t L → InBucket t L p (held t slots L p) slot → mark-word slot < length slots
+  unfolding held
+  held-lent {L} {p} = lowest-lent L p (holds t slots L p)
+
+  pub vacant-lent : {L p slot : ℕ} → Ready t L → InBucket t L p (vacant t slots L p) slot → mark-word slot < length slots
   unfolding vacant
-  vacant-lent L p s ready e = slot-lent t slots sized L p s ready (some-lowest (free t slots L p) (t .s) s e .within)
+  vacant-lent {L} {p} = lowest-lent L p (free t slots L p)
 
   pub held-ended : (L p s : ℕ) → Ready t L → held t slots L p ≡ some s → Ended slots (slot-number t L p s)
   unfolding held holds

@@ -1,5 +1,5 @@
 -- The laws that this crate's proofs cite, and those of other searches of buckets.
 pub mod Ends
+pub mod Passes
 pub mod Searching
 pub mod Slots
-pub mod Vacancies

@@ -57,17 +57,17 @@ module _ {t : Settings} {slots : List ℕ} where
     inside range sized h =
         is-lent t slots _ _ s _ (at .from) (record { range = range; low = at .longest .low; high = at .longest .high }) sized h
 
-    pub passed : {found : Place} {r : Bool} → Below t slots (turn .length) (turn .prefix) found s
-        → r ≡ holding slots (turn .first + s) (turn .prefix) → r ≡ false → Below t slots (turn .length) (turn .prefix) found (s + 1)
+    pub passed : {found : Place} {r : Bool} → Below t slots (turn .length) (turn .p) found s
+        → r ≡ holding slots (turn .first + s) (turn .p) → r ≡ false → Below t slots (turn .length) (turn .p) found (s + 1)
     passed {found} {r} below ensured denied =
         let test = holds-by t slots _ _ s _ (at .from) r ensured in
         record { nothing = below .nothing; none-holds = lowest-on _ _ (below .none-holds) (test ∙ denied) }
 
   -- a turn at the longest length that is left
-  module _ {address lengths left probes s : ℕ} {found now : Place} {turn : Turn} (at : Turned t address left turn) (between : Between t slots address lengths found left probes) (below : Below t slots (turn .length) (turn .prefix) now s) where
+  module _ {address lengths left probes s : ℕ} {found now : Place} {turn : Turn} (at : Turned t address left turn) (between : Between t slots address lengths found left probes) (below : Below t slots (turn .length) (turn .p) now s) where
     -- its bucket ends the search, or the other lengths go on with one probe more
     by-bucket : search t slots address 0 (set-bits lengths)
-        ≡ found-or t (turn .length) (turn .prefix) (probes + 1) (held t slots (turn .length) (turn .prefix)) (search t slots address (probes + 1) (set-bits (turn .left)))
+        ≡ found-or t (turn .length) (turn .p) (probes + 1) (held t slots (turn .length) (turn .p)) (search t slots address (probes + 1) (set-bits (turn .left)))
     unfolding search
     by-bucket =
         let longest = at .longest in
@@ -79,15 +79,15 @@ module _ {t : Settings} {slots : List ℕ} where
     next all =
         record {
           nothing = below .nothing;
-          same = by-bucket ∙ rw (none-before (holds t slots (turn .length) (turn .prefix)) _ _ all (below .none-holds));
+          same = by-bucket ∙ rw (none-before (holds t slots (turn .length) (turn .p)) _ _ all (below .none-holds));
           few = omega (arith, less at);
         }
 
     -- this slot does
-    pub here : {r : Bool} → s < t .s → r ≡ holding slots (turn .first + s) (turn .prefix) → r ≡ true
+    pub here : {r : Bool} → s < t .s → r ≡ holding slots (turn .first + s) (turn .p) → r ≡ true
         → At (turn .first + s) (turn .length) (probes + 1) ≡ search t slots address 0 (set-bits lengths)
     unfolding held
     here {r} within ensured told =
         let test = holds-by t slots _ _ s _ (at .from) r ensured in
-        let lowest-is = lowest-here (holds t slots (turn .length) (turn .prefix)) _ _ within (below .none-holds) (test ∙ told) in
-        sym (by-bucket ∙ rw (lowest-is, counted t (turn .length) (turn .prefix) s _ (at .from)))
+        let lowest-is = lowest-here (holds t slots (turn .length) (turn .p)) _ _ within (below .none-holds) (test ∙ told) in
+        sym (by-bucket ∙ rw (lowest-is, counted t (turn .length) (turn .p) s _ (at .from)))

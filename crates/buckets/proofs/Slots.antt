@@ -1,12 +1,13 @@
 -- Slots of a bucket by their number: what the code counts from the first one is `slot-number`, and lies within the lent words.
 use Prim.Native.Nat.{ℕ, _+_, _-_, _*_, _%_, _^_, _≤_, _<_}
 use mathlib.Core.Path.{_≡_, ap}
-use mathlib.Core.Bool.{Bool, not}
+use mathlib.Core.Bool.{Bool, true, false, not}
 use mathlib.Core.List.{List}
 use native.Mathlib.Nat.{mul-le-mul, mod-eq-of-lt}
 use native.Mathlib.Omega.{arith}
 use lib.ListN.{length}
 use lib.Pow.{pow-mono}
+use borrow.Author.Tests.{not-true}
 use Rattle.rules.specs.declared.Settings.{Settings}
 use Rattle.rules.specs.Table.{bucket, slot-number, mark-word, default-word, mark-at, occupied, free, holds}
 use Rattle.rules.specs.Ready.{Ready, Slots}
@@ -50,6 +51,11 @@ module _ (t : Settings) (slots : List ℕ) (L p s first : ℕ) (from : first ≡
   pub holds-by : (r : Bool) → r ≡ holding slots (first + s) p → holds t slots L p s ≡ r
   unfolding holds
   holds-by r h = rw (h, counted t L p s first from)
+
+-- a free slot does not hold p
+pub free-holds : (t : Settings) (slots : List ℕ) (L p s : ℕ) → free t slots L p s ≡ true → holds t slots L p s ≡ false
+unfolding free holds
+free-holds t slots L p s h = rw (not-true (occupied (mark-at slots (slot-number t L p s))) h)
 
 -- the last word is the default's
 pub some-word : (t : Settings) (slots : List ℕ) → Slots t slots → 1 ≤ length slots

@@ -1,2 +1,2 @@
+pub mod Passes
 pub mod Turns
-pub mod Vacancy

@@ -18,8 +18,8 @@ pub record Longest (v L : ℕ) : Type 0 where
 -- the turn is at the longest of the lengths, and leaves the others
 pub record Turned (t : Settings) (address lengths : ℕ) (turn : Turn) : Type 0 where
   pub longest : Longest lengths (turn .length)
-  pub own : turn .prefix ≡ prefix (turn .length) address
-  pub from : turn .first ≡ slot-number t (turn .length) (turn .prefix) 0
+  pub own : turn .p ≡ prefix (turn .length) address
+  pub from : turn .first ≡ slot-number t (turn .length) (turn .p) 0
   pub rest : turn .left ≡ lengths - 2 ^ (turn .length - 1)
 
 -- slot n, by its number, is occupied and holds p

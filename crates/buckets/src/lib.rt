@@ -3,10 +3,10 @@ ghost use mathlib.Core.Path.{_≡_};
 ghost use mathlib.Core.Bool.{true};
 ghost use Prim.Native.Nat.{_<_};
 ghost use lib.ListN.{length, set};
-ghost use Rattle.rules.specs.Table.{in-range, slot-number, mark-word, default-word, mark-at, default-mark, with-slot, set-bits, search, held, vacant, found-or, prefix, occupied};
+ghost use Rattle.rules.specs.Table.{in-range, slot-number, mark-word, default-word, mark-at, prefix-at, default-mark, with-slot, set-bits, search, occupied};
 ghost use Rattle.rules.specs.Ready.{Ready, Slots};
 ghost use Rattle.buckets.specs.Turns.{Turned, holding};
-ghost use Rattle.buckets.specs.Vacancy.{vacancy-of};
+ghost use Rattle.buckets.specs.Passes.{Passed, or-this};
 use hashes::bucket_of;
 use prefixes::prefix_of;
 use rules::Place;
@@ -18,10 +18,17 @@ pub enum Vacancy {
     Full,
 }
 
+// What one pass over a bucket finds: the slot that holds the prefix and, where none does, the lowest
+// free slot.
+pub struct Searched {
+    pub place: Place,
+    pub vacancy: Vacancy,
+}
+
 // One length's part in a search of buckets.
 pub struct Turn {
+    pub p: u32,
     pub length: u32,
-    pub prefix: u32,
     pub first: usize,
     pub left: u32,
 }
@@ -34,12 +41,20 @@ pub fn is_occupied(mark: u32) -> bool
 }
 
 // The number of the first slot of a prefix's bucket at a length.
-pub fn first_slot(settings: Settings, length: u32, prefix: u32) -> usize
+fn first_slot(settings: Settings, p: u32, length: u32) -> usize
     requires { ⌜ Ready settings length ⌝ }
-    ensures { λ r. ⌜ r ≡ slot-number settings length prefix 0 ⌝ }
+    ensures { λ r. ⌜ r ≡ slot-number settings length p 0 ⌝ }
 {
-    let bucket = bucket_of(settings, prefix) as usize;
+    let bucket = bucket_of(settings, p) as usize;
     ((((length - 1) as usize) << (settings.e as usize)) + bucket) * (settings.s as usize)
+}
+
+// The prefix of a slot, by its number.
+fn prefix_at(slots: &[u32], slot: usize) -> u32
+    requires { ⌜ mark-word slot < length (now slots) ⌝ }
+    ensures { λ r. ⌜ r ≡ prefix-at (now (slots .entry)) slot ⌝ }
+{
+    slots[2 * slot]
 }
 
 // The mark of a slot, by its number.
@@ -68,20 +83,20 @@ pub fn put_default(settings: Settings, slots: &mut [u32], mark: u32)
 }
 
 // Gives a slot, by its number, a prefix and a mark.
-pub fn put_slot(slots: &mut [u32], slot: usize, prefix: u32, mark: u32)
+pub fn put_slot(slots: &mut [u32], slot: usize, p: u32, mark: u32)
     requires { ⌜ mark-word slot < length (now slots) ⌝ }
-    ensures { λ _. ⌜ now (slots .exit) ≡ with-slot (now (slots .entry)) slot prefix mark ⌝ }
+    ensures { λ _. ⌜ now (slots .exit) ≡ with-slot (now (slots .entry)) slot p mark ⌝ }
 {
-    slots[2 * slot] = prefix;
+    slots[2 * slot] = p;
     slots[2 * slot + 1] = mark;
 }
 
 // Whether a slot, by its number, is occupied and holds a prefix.
-fn holds_at(slots: &[u32], slot: usize, prefix: u32) -> bool
+fn holds_at(slots: &[u32], slot: usize, p: u32) -> bool
     requires { ⌜ mark-word slot < length (now slots) ⌝ }
-    ensures { λ r. ⌜ r ≡ holding (now (slots .entry)) slot prefix ⌝ }
+    ensures { λ r. ⌜ r ≡ holding (now (slots .entry)) slot p ⌝ }
 {
-    is_occupied(mark_at(slots, slot)) && slots[2 * slot] == prefix
+    is_occupied(mark_at(slots, slot)) && prefix_at(slots, slot) == p
 }
 
 // A turn of a search: the longest length that is left, the address's prefix of it, the first slot of
@@ -92,12 +107,12 @@ pub fn turn_of(settings: Settings, address: u32, lengths: u32) -> Turn
     ensures { λ r. ⌜ Turned settings address lengths r ⌝ }
 {
     let length = 32 - u32::leading_zeros(lengths);
-    let prefix = prefix_of(length, address);
-    let first = first_slot(settings, length, prefix);
+    let p = prefix_of(address, length);
+    let first = first_slot(settings, p, length);
     let left = lengths - (1 << (length - 1));
     Turn {
+        p,
         length,
-        prefix,
         first,
         left,
     }
@@ -119,7 +134,7 @@ pub fn search_buckets(settings: Settings, slots: &[u32], address: u32, lengths: 
         let mut s: u32 = 0;
         while s < settings.s {
             let slot = turn.first + s as usize;
-            if holds_at(slots, slot, turn.prefix) {
+            if holds_at(slots, slot, turn.p) {
                 found = Place::At {
                     slot,
                     length: turn.length,
@@ -134,32 +149,42 @@ pub fn search_buckets(settings: Settings, slots: &[u32], address: u32, lengths: 
     found
 }
 
-// The slot that holds a prefix in its own bucket at a length.
-pub fn search_bucket(settings: Settings, slots: &[u32], length: u32, p: u32) -> Place
-    requires { ⌜ Ready settings length ⌝ }
-    requires { ⌜ Slots settings (now slots) ⌝ }
-    requires { ⌜ prefix length p ≡ p ⌝ }
-    ensures { λ r. ⌜ r ≡ found-or settings length p 1 (held settings (now (slots .entry)) length p) Place.Absent ⌝ }
+// The free slot that was met first: an earlier one, or else this slot.
+fn first_of(vacancy: Vacancy, slot: usize) -> Vacancy
+    ensures { λ r. ⌜ r ≡ or-this vacancy slot ⌝ }
 {
-    search_buckets(settings, slots, p, 1 << (length - 1))
+    match vacancy {
+        Vacancy::At(earlier) => Vacancy::At(earlier),
+        Vacancy::Full => Vacancy::At(slot),
+    }
 }
 
-// The lowest free slot of a prefix's bucket at a length.
-pub fn first_free(settings: Settings, slots: &[u32], length: u32, prefix: u32) -> Vacancy
+// Searches a prefix's own bucket at a length, from the lowest slot up to the one that is occupied and
+// holds the prefix, and keeps the first free slot on the way.
+pub fn search_bucket(settings: Settings, slots: &[u32], p: u32, length: u32) -> Searched
     requires { ⌜ Ready settings length ⌝ }
     requires { ⌜ Slots settings (now slots) ⌝ }
-    ensures { λ r. ⌜ r ≡ vacancy-of settings length prefix (vacant settings (now (slots .entry)) length prefix) ⌝ }
+    ensures { λ r. ⌜ Passed settings (now (slots .entry)) length p r ⌝ }
 {
-    let first = first_slot(settings, length, prefix);
-    let mut free = Vacancy::Full;
+    let first = first_slot(settings, p, length);
+    let mut vacancy = Vacancy::Full;
     let mut s: u32 = 0;
     while s < settings.s {
         let slot = first + s as usize;
         if !is_occupied(mark_at(slots, slot)) {
-            free = Vacancy::At(slot);
-            break;
+            vacancy = first_of(vacancy, slot);
+        } else if prefix_at(slots, slot) == p {
+            let place = Place::At {
+                slot,
+                length,
+                probes: 1,
+            };
+            return Searched { place, vacancy };
         }
         s += 1;
     }
-    free
+    Searched {
+        place: Place::Absent,
+        vacancy,
+    }
 }

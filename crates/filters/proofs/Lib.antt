@@ -1,3 +1,3 @@
--- The laws that the loops share.
-pub mod Places
+-- The laws that the loops share, and those that callers cite.
+pub mod Hashing
 pub mod Visits

@@ -1,1 +1,2 @@
-pub mod Places
+-- What the contracts of the filters cite.
+pub mod Visits

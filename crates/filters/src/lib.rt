@@ -1,13 +1,22 @@
-// One counting filter per length, over lent bytes.
+// One counting filter per length, over lent bytes. An update hashes its prefix once, into places.
 ghost use mathlib.Core.Path.{_≡_};
 ghost use mathlib.Core.Bool.{false};
-ghost use Prim.Native.Nat.{_+_, _-_};
-ghost use Rattle.rules.specs.Table.{filter-start, counter-places, hits, claims, passes-15, runs-short, step-each};
+ghost use Prim.Native.Nat.{_+_, _*_, _%_, _^_, _≤_};
+ghost use Rattle.rules.specs.Table.{wrap, filter-start, claims, step-each};
 ghost use Rattle.rules.specs.Ready.{Ready, Counters};
-ghost use Rattle.filters.specs.Places.{grown, Placed};
+ghost use Rattle.filters.specs.Visits.{Placed, PlacesOf, Whole, Inside, Hits, k-places, cannot, stepped, some-cannot};
 use hashes::product;
 use hashes::top_bits;
 use rules::Settings;
+
+// Where the K counters of a prefix lie, in the order of the steps; the rest is 0 and is not read.
+pub type Places = [usize; 8];
+
+// What an update does to the counter at each of its places.
+pub enum Step {
+    Raise,
+    Lower,
+}
 
 // Where the filter of a length begins among the counters.
 fn start_of(settings: Settings, length: u32) -> usize
@@ -25,126 +34,114 @@ fn place_of(settings: Settings, length: u32, g: u32) -> usize
     start_of(settings, length) + top_bits(g, settings.d) as usize
 }
 
-// The number after g in the double hashing of a prefix: the sum wraps at 2^32 on purpose.
-fn grow(settings: Settings, prefix: u32, g: u32) -> u32
-    ensures { λ r. ⌜ r ≡ grown settings prefix g ⌝ }
+// What g grows by at each step of a prefix.
+fn growth_of(settings: Settings, p: u32) -> u32
+    ensures { λ r. ⌜ r ≡ wrap (settings .b * p) ⌝ }
 {
-    std::num::wrapping_add_u32(g, product(settings.b, prefix))
+    product(settings.b, p)
+}
+
+// The number after g in the double hashing of a prefix: the sum wraps at 2^32 on purpose.
+fn grow(g: u32, growth: u32) -> u32
+    ensures { λ r. ⌜ r ≡ (g + growth) % 2 ^ 32 ⌝ }
+{
+    std::num::wrapping_add_u32(g, growth)
 }
 
 // Whether the filter of a length claims a prefix: all its K counters are nonzero.
-pub fn claims_prefix(settings: Settings, counters: &[u8], length: u32, prefix: u32) -> bool
+pub fn claims_prefix(settings: Settings, counters: &[u8], p: u32, length: u32) -> bool
     requires { ⌜ Ready settings length ⌝ }
     requires { ⌜ Counters settings (now counters) ⌝ }
-    ensures { λ r. ⌜ r ≡ claims settings (now (counters .entry)) length prefix ⌝ }
+    ensures { λ r. ⌜ r ≡ claims settings (now (counters .entry)) length p ⌝ }
 {
-    let mut g = product(settings.a, prefix);
+    let growth = growth_of(settings, p);
+    let mut g = product(settings.a, p);
     let mut claimed = true;
-    let mut step: u32 = 0;
-    while step < settings.k {
+    for _ in 0..settings.k {
         let place = place_of(settings, length, g);
         if counters[place] == 0 {
             claimed = false;
             break;
         }
-        g = grow(settings, prefix, g);
-        step += 1;
+        g = grow(g, growth);
     }
     claimed
 }
 
-// How many of the K steps of a prefix land on the counter at a place.
-fn hits_at(settings: Settings, length: u32, prefix: u32, place: usize) -> u32
+// Where the counters of a prefix lie.
+pub fn places_of(settings: Settings, p: u32, length: u32) -> Places
     requires { ⌜ Ready settings length ⌝ }
-    ensures { λ r. ⌜ r ≡ hits settings length prefix place ⌝ }
+    ensures { λ r. ⌜ PlacesOf settings length p r ⌝ }
 {
-    let mut g = product(settings.a, prefix);
-    let mut found: u32 = 0;
-    let mut step: u32 = 0;
-    while step < settings.k {
-        if place_of(settings, length, g) == place {
-            found += 1;
+    let growth = growth_of(settings, p);
+    let mut g = product(settings.a, p);
+    let mut places = [0; 8];
+    for step in 0..settings.k as usize {
+        places[step] = place_of(settings, length, g);
+        g = grow(g, growth);
+    }
+    places
+}
+
+// How many of the K steps land on a place.
+fn hits_at(settings: Settings, places: &Places, place: usize) -> u32
+    requires { ⌜ Whole settings (now places) ⌝ }
+    ensures { λ r. ⌜ Hits settings (now (places .entry)) place r ⌝ }
+{
+    let mut hits: u32 = 0;
+    for i in 0..settings.k as usize {
+        if places[i] == place {
+            hits += 1;
         }
-        g = grow(settings, prefix, g);
-        step += 1;
     }
-    found
+    hits
 }
 
-// Whether some counter plus its hits by a prefix exceeds 15.
-pub fn would_pass_15(settings: Settings, counters: &[u8], length: u32, prefix: u32) -> bool
-    requires { ⌜ Ready settings length ⌝ }
-    requires { ⌜ Counters settings (now counters) ⌝ }
-    ensures { λ r. ⌜ r ≡ passes-15 settings (now (counters .entry)) length prefix ⌝ }
+// Whether a counter cannot take so many steps: it would pass 15, or it is less than they are.
+fn cannot_take(step: Step, counter: u8, hits: u32) -> bool
+    requires { ⌜ hits ≤ 8 ⌝ }
+    ensures { λ r. ⌜ r ≡ cannot step counter hits ⌝ }
 {
-    let mut g = product(settings.a, prefix);
-    let mut passes = false;
-    let mut step: u32 = 0;
-    while step < settings.k {
-        let place = place_of(settings, length, g);
-        if 15 < counters[place] as u32 + hits_at(settings, length, prefix, place) {
-            passes = true;
-            break;
+    match step {
+        Step::Raise => 15 < counter as u32 + hits,
+        Step::Lower => (counter as u32) < hits,
+    }
+}
+
+// Whether some counter at these places cannot take its hits.
+pub fn cannot_step(settings: Settings, counters: &[u8], places: &Places, step: Step) -> bool
+    requires { ⌜ Inside settings (now counters) (now places) ⌝ }
+    ensures { λ r. ⌜ r ≡ some-cannot step (now (counters .entry)) (k-places settings (now (places .entry))) ⌝ }
+{
+    for i in 0..settings.k as usize {
+        let place = places[i];
+        let hits = hits_at(settings, places, place);
+        if cannot_take(step, counters[place], hits) {
+            return true;
         }
-        g = grow(settings, prefix, g);
-        step += 1;
     }
-    passes
+    false
 }
 
-// Whether some counter is less than its hits by a prefix.
-pub fn would_run_short(settings: Settings, counters: &[u8], length: u32, prefix: u32) -> bool
-    requires { ⌜ Ready settings length ⌝ }
-    requires { ⌜ Counters settings (now counters) ⌝ }
-    ensures { λ r. ⌜ r ≡ runs-short settings (now (counters .entry)) length prefix ⌝ }
+// A counter after one step that it can take.
+fn stepped(step: Step, counter: u8) -> u8
+    requires { ⌜ cannot step counter 1 ≡ false ⌝ }
+    ensures { λ r. ⌜ r ≡ stepped step counter ⌝ }
 {
-    let mut g = product(settings.a, prefix);
-    let mut short = false;
-    let mut step: u32 = 0;
-    while step < settings.k {
-        let place = place_of(settings, length, g);
-        if (counters[place] as u32) < hits_at(settings, length, prefix, place) {
-            short = true;
-            break;
-        }
-        g = grow(settings, prefix, g);
-        step += 1;
-    }
-    short
-}
-
-// Each of the K positions of a prefix adds one to its counter, where none of them passes 15.
-pub fn raise(settings: Settings, counters: &mut [u8], length: u32, prefix: u32)
-    requires { ⌜ Ready settings length ⌝ }
-    requires { ⌜ Counters settings (now counters) ⌝ }
-    requires { ⌜ passes-15 settings (now counters) length prefix ≡ false ⌝ }
-    ensures { λ _. ⌜ now (counters .exit) ≡ step-each (λ n. n + 1) (now (counters .entry)) (counter-places settings length prefix) ⌝ }
-{
-    let mut g = product(settings.a, prefix);
-    let mut step: u32 = 0;
-    while step < settings.k {
-        let place = place_of(settings, length, g);
-        let count = counters[place];
-        counters[place] = count + 1;
-        g = grow(settings, prefix, g);
-        step += 1;
+    match step {
+        Step::Raise => counter + 1,
+        Step::Lower => counter - 1,
     }
 }
 
-// Each of the K positions of a prefix takes one from its counter, where none of them runs short.
-pub fn lower(settings: Settings, counters: &mut [u8], length: u32, prefix: u32)
-    requires { ⌜ Ready settings length ⌝ }
-    requires { ⌜ Counters settings (now counters) ⌝ }
-    requires { ⌜ runs-short settings (now counters) length prefix ≡ false ⌝ }
-    ensures { λ _. ⌜ now (counters .exit) ≡ step-each (λ n. n - 1) (now (counters .entry)) (counter-places settings length prefix) ⌝ }
+// Each of the K places has its counter stepped, where each counter can take its hits.
+pub fn step_each(settings: Settings, counters: &mut [u8], places: &Places, step: Step)
+    requires { ⌜ Inside settings (now counters) (now places) ⌝ }
+    requires { ⌜ some-cannot step (now counters) (k-places settings (now places)) ≡ false ⌝ }
+    ensures { λ _. ⌜ now (counters .exit) ≡ step-each (stepped step) (now (counters .entry)) (k-places settings (now (places .entry))) ⌝ }
 {
-    let mut g = product(settings.a, prefix);
-    let mut step: u32 = 0;
-    while step < settings.k {
-        let place = place_of(settings, length, g);
-        let count = counters[place];
-        counters[place] = count - 1;
-        g = grow(settings, prefix, g);
-        step += 1;
+    for i in 0..settings.k as usize {
+        let place = places[i];
+        counters[place] = stepped(step, counters[place]);
     }
 }

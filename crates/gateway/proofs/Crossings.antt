@@ -1,13 +1,13 @@
 -- From what a call of the table ensures to what crosses to C: one law for every update.
-use Prim.Native.Nat.{ℕ, _*_, _^_, _≤_}
+use Prim.Native.Nat.{ℕ, _*_, _^_}
 use mathlib.Core.Path.{_≡_, refl}
 use mathlib.Core.List.{List}
 use Rattle.rules.specs.Table.{Update, left}
-use Rattle.gateway.specs.Crossing.{Crossed}
+use Rattle.gateway.specs.Crossing.{RefusalFits, Crossed}
 
 module _ {u : Update} {refusal : ℕ} {counters slots : List ℕ} (ensured : u ≡ left refusal counters slots) where
-  pub fits-above : u .refusal ≤ 10 → refusal ≤ 10
-  fits-above small = rw ensured at small
+  pub fits-above : RefusalFits (u .refusal) → RefusalFits refusal
+  fits-above fits = rw ensured at fits
 
   pub crossed : {answer : ℕ} → answer ≡ refusal * 2 ^ 48 → Crossed u answer counters slots
   crossed number = rw ensured (record { number = number; memory = refl })

@@ -7,6 +7,7 @@ use contract.Lifetimes.{Lfts}
 use denote.Ref.{now}
 use Rattle.rules.specs.Table.{Memory, Update}
 use Rattle.gateway.specs.Crossing.{Crossed}
+use Rattle.gateway.proofs.Arguments.{past}
 use Rattle.gateway.proofs.gateway_clear.Reads as clear
 use Rattle.gateway.proofs.gateway_add.Reads as add
 use Rattle.gateway.proofs.gateway_withdraw.Reads as withdraw
@@ -22,19 +23,19 @@ alike u one other =
     (one .number ∙ sym (other .number), (ap (λ (m : Memory). m .counters) same, ap (λ (m : Memory). m .slots) same))
 
 pub clear-determined : (κs : Lfts 2) (a : _) (r q : _) (s e : _) → clear.Post κs a r s → clear.Post κs a q e
-    → (r ≡ q) × ((now (s .1 .1 .1 .1 .1 .1 .1 .0) ≡ now (e .1 .1 .1 .1 .1 .1 .1 .0)) × (now (s .1 .1 .1 .1 .1 .1 .1 .1 .0) ≡ now (e .1 .1 .1 .1 .1 .1 .1 .1 .0)))
+    → (r ≡ q) × ((now (past s .0) ≡ now (past e .0)) × (now (past s .1 .0) ≡ now (past e .1 .0)))
 clear-determined κs a r q s e one other = alike _ one other
 
 pub add-determined : (κs : Lfts 2) (a : _) (r q : _) (s e : _) → add.Post κs a r s → add.Post κs a q e
-    → (r ≡ q) × ((now (s .1 .1 .1 .1 .1 .1 .1 .0) ≡ now (e .1 .1 .1 .1 .1 .1 .1 .0)) × (now (s .1 .1 .1 .1 .1 .1 .1 .1 .0) ≡ now (e .1 .1 .1 .1 .1 .1 .1 .1 .0)))
+    → (r ≡ q) × ((now (past s .0) ≡ now (past e .0)) × (now (past s .1 .0) ≡ now (past e .1 .0)))
 add-determined κs a r q s e one other = alike _ one other
 
 pub withdraw-determined : (κs : Lfts 2) (a : _) (r q : _) (s e : _) → withdraw.Post κs a r s → withdraw.Post κs a q e
-    → (r ≡ q) × ((now (s .1 .1 .1 .1 .1 .1 .1 .0) ≡ now (e .1 .1 .1 .1 .1 .1 .1 .0)) × (now (s .1 .1 .1 .1 .1 .1 .1 .1 .0) ≡ now (e .1 .1 .1 .1 .1 .1 .1 .1 .0)))
+    → (r ≡ q) × ((now (past s .0) ≡ now (past e .0)) × (now (past s .1 .0) ≡ now (past e .1 .0)))
 withdraw-determined κs a r q s e one other = alike _ one other
 
 pub change-determined : (κs : Lfts 2) (a : _) (r q : _) (s e : _) → change.Post κs a r s → change.Post κs a q e
-    → (r ≡ q) × ((now (s .1 .1 .1 .1 .1 .1 .1 .0) ≡ now (e .1 .1 .1 .1 .1 .1 .1 .0)) × (now (s .1 .1 .1 .1 .1 .1 .1 .1 .0) ≡ now (e .1 .1 .1 .1 .1 .1 .1 .1 .0)))
+    → (r ≡ q) × ((now (past s .0) ≡ now (past e .0)) × (now (past s .1 .0) ≡ now (past e .1 .0)))
 change-determined κs a r q s e one other = alike _ one other
 
 pub match-vector-determined : (κs : Lfts 2) (a : _) (r q : _) (s e : _) → match-vector.Post κs a r s → match-vector.Post κs a q e → r ≡ q

@@ -1,10 +1,11 @@
 // The gateway table for C: six calls on numbers and lent memory. No call requires anything, keeps
 // anything or copies the memory. Lookup and match vector read the slots as bytes, four to a word, the
-// low byte first; the updates write them as words of the machine.
+// low byte first; the updates write them as words of the machine. What a C program may rely on is
+// proved in crates/c_promises.
 ghost use mathlib.Core.Path.{_≡_};
 ghost use Prim.Native.Nat.{_*_, _+_, _^_, _≤_};
 ghost use Rattle.rules.specs.Table.{lent, words, memory-refusal, lookup, match-vector, one-if, answer-number, vector-number, c-lookup, c-match-vector, clear, add, withdraw, change};
-ghost use Rattle.gateway.specs.Crossing.{settings-of, Crossed};
+ghost use Rattle.gateway.specs.Crossing.{settings-of, RefusalFits, Fits, Crossed};
 use hops::answer_default;
 use hops::answer_refused;
 use hops::answer_route;
@@ -81,7 +82,7 @@ fn match_vector(settings: Settings, counters: &[u8], slots: &[u8], address: u32)
 
 // A refusal's part of the number that every call gives back.
 fn refusal_part(refusal: u32) -> u64
-    requires { ⌜ refusal ≤ 10 ⌝ }
+    requires { ⌜ RefusalFits refusal ⌝ }
     ensures { λ r. ⌜ r ≡ refusal * 2 ^ 48 ⌝ }
 {
     (refusal as u64) * 0x1_0000_0000_0000
@@ -97,7 +98,7 @@ fn one_if(found: bool) -> u64
 
 // An answer as one number.
 fn number_of_answer(answer: Answer) -> u64
-    requires { ⌜ answer .refusal ≤ 10 ⌝ }
+    requires { ⌜ Fits answer ⌝ }
     ensures { λ r. ⌜ r ≡ answer-number answer ⌝ }
 {
     let found = one_if(answer.found) * 0x100_0000_0000;
@@ -108,7 +109,7 @@ fn number_of_answer(answer: Answer) -> u64
 
 // A match vector as one number.
 fn number_of_vector(vector: Vector) -> u64
-    requires { ⌜ vector .refusal ≤ 10 ⌝ }
+    requires { ⌜ RefusalFits (vector .refusal) ⌝ }
     ensures { λ r. ⌜ r ≡ vector-number vector ⌝ }
 {
     refusal_part(vector.refusal) + vector.vector as u64
@@ -129,8 +130,7 @@ pub extern "C" fn gateway_clear(
 ) -> u64
     ensures { λ r. ⌜ Crossed (clear (settings-of k d e s a b c) (lent (now (counters .entry)) (now (slots .entry)))) r (now (counters .exit)) (now (slots .exit)) ⌝ }
 {
-    let settings = settings_of(k, d, e, s, a, b, c);
-    refusal_part(table::clear(settings, counters, slots))
+    refusal_part(table::clear(settings_of(k, d, e, s, a, b, c), counters, slots))
 }
 
 // Stores a route that is not stored yet.
@@ -214,8 +214,7 @@ pub extern "C" fn gateway_match_vector(
 ) -> u64
     ensures { λ r. ⌜ r ≡ c-match-vector (settings-of k d e s a b c) (now (counters .entry)) (now (slots .entry)) address ⌝ }
 {
-    let settings = settings_of(k, d, e, s, a, b, c);
-    number_of_vector(match_vector(settings, counters, slots, address))
+    number_of_vector(match_vector(settings_of(k, d, e, s, a, b, c), counters, slots, address))
 }
 
 // The longest stored route that matches an address:
@@ -235,6 +234,5 @@ pub extern "C" fn gateway_lookup(
 ) -> u64
     ensures { λ r. ⌜ r ≡ c-lookup (settings-of k d e s a b c) (now (counters .entry)) (now (slots .entry)) address ⌝ }
 {
-    let settings = settings_of(k, d, e, s, a, b, c);
-    number_of_answer(lookup(settings, counters, slots, address))
+    number_of_answer(lookup(settings_of(k, d, e, s, a, b, c), counters, slots, address))
 }

@@ -19,10 +19,10 @@ pub fn top_bits(g: u32, bits: u32) -> u32
     if bits == 0 { 0 } else { g >> (32 - bits) }
 }
 
-// The bucket of a prefix, at any length.
-pub fn bucket_of(settings: Settings, prefix: u32) -> u32
+// The bucket of a prefix p, at any length.
+pub fn bucket_of(settings: Settings, p: u32) -> u32
     requires { ⌜ settings .e ≤ 8 ⌝ }
-    ensures { λ r. ⌜ r ≡ bucket settings prefix ⌝ }
+    ensures { λ r. ⌜ r ≡ bucket settings p ⌝ }
 {
-    top_bits(product(settings.c, prefix), settings.e)
+    top_bits(product(settings.c, p), settings.e)
 }

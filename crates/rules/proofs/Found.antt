@@ -1,12 +1,11 @@
 -- What a search of one bucket found, as what the bucket holds.
 use Prim.Native.Nat.{ℕ}
 use mathlib.Core.Path.{_≡_, refl}
-use mathlib.Core.Bool.{true, false}
 use mathlib.Core.Option.{Option, some, none}
 use native.Mathlib.Omega.{arith}
 use Rattle.rules.specs.declared.Settings.{Settings}
 use Rattle.rules.specs.declared.Place.the-variants.{At, Absent}
-use Rattle.rules.specs.Table.{slot-number, is-some, found-or}
+use Rattle.rules.specs.Table.{slot-number, found-or}
 
 -- the search ended in this slot of the bucket
 pub record InBucket (t : Settings) (L p : ℕ) (o : Option ℕ) (slot : ℕ) : Type 0 where
@@ -22,11 +21,3 @@ module _ (t : Settings) (L p probes : ℕ) where
   pub found-nowhere : (o : Option ℕ) → found-or t L p probes o Absent ≡ Absent → o ≡ none
   found-nowhere (some s) e = absurd (let z : _≡_ {A = ℕ} 0 1 = cc in omega arith)
   found-nowhere none e = refl
-
-pub some-is : (o : Option ℕ) (s : ℕ) → o ≡ some s → is-some o ≡ true
-unfolding is-some
-some-is o s e = rw e
-
-pub none-is : (o : Option ℕ) → o ≡ none → is-some o ≡ false
-unfolding is-some
-none-is o e = rw e

@@ -1,7 +1,9 @@
 -- The laws that other crates cite, and the worked cases.
 pub mod Answers
 pub mod Found
+pub mod Levels
 pub mod Lowest
+pub mod Marks
 pub mod Members
 pub mod Placing
 pub mod Prefixes

@@ -58,10 +58,7 @@ module _ (test : ℕ → Bool) where
   pub none-before : (m n : ℕ) → n ≤ m → lowest test m ≡ none → lowest test n ≡ none
   none-before m n l h = lowest-none n (λ i b. none-below m h i (omega arith))
 
-  -- s is found exactly if it is the lowest
-  pub lowest-some : (n s : ℕ) → Lowest test n s → lowest test n ≡ some s
-  lowest-some n s h = lowest-here n s (h .within) (lowest-none s (h .first)) (h .passes)
-
+  -- what is found is the lowest
   pub some-lowest : (n s : ℕ) → lowest test n ≡ some s → Lowest test n s
   unfolding lowest
   some-lowest zero s h = absurd (Option·none-ne-some s h)
@@ -80,10 +77,3 @@ module _ (test : ℕ → Bool) where
             first = λ i l. none-below n eo i (omega arith);
           }
       go none false eo eb ih e = absurd (Option·none-ne-some s e)
-
--- two tests that agree below n have the same lowest
-pub lowest-same : (test other : ℕ → Bool) (n : ℕ) → ((i : ℕ) → i < n → test i ≡ other i) → lowest test n ≡ lowest other n
-unfolding lowest
-lowest-same test other zero same = refl
-lowest-same test other (suc n) same =
-    rw (lowest-same test other n (λ i l. same i (omega arith)), same n (omega arith))

@@ -105,12 +105,6 @@ any-false test xs h x m = not-true (test x) (all-true (λ y. not (test y)) xs (n
 pub any-none : (test : ℕ → Bool) (xs : List ℕ) → ((x : ℕ) → Among x xs → test x ≡ false) → any test xs ≡ false
 any-none test xs h = any-all test xs ∙ ap not (all-made (λ y. not (test y)) xs (λ x m. ap not (h x m)))
 
--- any holds: there is one at which the test holds
-pub any-true : (test : ℕ → Bool) (xs : List ℕ) → any test xs ≡ true → (x : ℕ) × Among x xs × (test x ≡ true)
-any-true test xs h =
-    let z = all-false (λ y. not (test y)) xs (not-true (all (λ y. not (test y)) xs) (sym (any-all test xs) ∙ h)) in
-    (z .0, z .1, not-false (test (z .0)) (z .2))
-
 pub any-made : (test : ℕ → Bool) (xs : List ℕ) (x : ℕ) → Among x xs → test x ≡ true → any test xs ≡ true
 any-made test xs x m h = go (any test xs) refl
   where

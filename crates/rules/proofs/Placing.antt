@@ -3,11 +3,11 @@ use Prim.Native.Nat.{ℕ, zero, suc, _+_, _-_, _*_, _/_, _%_, _^_, _≤_, _<_}
 use mathlib.Core.Path.{_≡_, refl, sym, ap, _∙_, subst}
 use mathlib.Core.Bool.{true}
 use mathlib.Core.Logic.{_⊎_, inl, inr, _≢_}
-use native.Mathlib.Nat.{add-sub-cancel, div-lt-iff-lt-mul, le-of-suc-le-suc, lt-of-not-le, le-antisymm, mod-lt, mul-assoc, add-left-cancel, mul-le-mul-right, suc-mul}
+use native.Mathlib.Nat.{add-sub-cancel, div-lt-iff-lt-mul, le-of-suc-le-suc, lt-of-not-le, le-antisymm, mod-lt, mul-assoc, add-left-cancel, mul-le-mul-left, mul-le-mul-right, suc-mul}
 use native.Mathlib.Omega.{arith}
 use lib.Arith.{digits-lt, digits-div, digits-mod}
 use lib.ListN.{length, length-map}
-use lib.Pow.{pow-pos, shr-lt, split}
+use lib.Pow.{pow-pos, pow-mono, shr-lt, split}
 use Rattle.rules.specs.declared.Settings.{Settings}
 use Rattle.rules.specs.Tools.{within, count}
 use Rattle.rules.specs.Table.{occupied, in-range, wrap, steps, filter-bits, positions, bucket, counters-size, filter-start, counter-place, counter-places, slots-size, slot-number, prefix-word, mark-word, default-word, hits}
@@ -249,3 +249,15 @@ default-fits t = omega arith
 pub occupied-low : (mark : ℕ) → occupied mark ≡ true → 1 ≤ mark
 unfolding occupied
 occupied-low mark h = within-true 1 65536 mark h .0
+
+-- ---- Counters by number
+
+-- the top bits of a number of 32 bits are a position, whose counter is one of the counters
+pub number-fits : (t : Settings) (L g : ℕ) → Ready t L → g < 2 ^ 32 → counter-place t L (g / 2 ^ (32 - filter-bits t L)) < counters-size t
+number-fits t L g ready h =
+    counter-fits t L _ ready (place-inside t L _ (top-lt (filter-bits t L) g (filter-bits-high t L ready) h))
+
+-- and these are few
+pub counters-few : (t : Settings) → in-range t ≡ true → counters-size t ≤ 2 ^ 16
+unfolding counters-size
+counters-few t range = mul-le-mul-left 32 (pow-mono (ranges t range .d-high))

@@ -1,13 +1,13 @@
 -- Prefixes of an address: to cut at one length and then at a shorter one is to cut at the shorter, as one quotient of another.
-use Prim.Native.Nat.{ℕ, _+_, _-_, _*_, _/_, _%_, _^_, _≤_, _<_}
-use mathlib.Core.Path.{_≡_, sym, ap, _∙_}
-use mathlib.Core.Bool.{false}
+use Prim.Native.Nat.{ℕ, zero, suc, _+_, _-_, _*_, _/_, _%_, _^_, _≤_, _<_}
+use mathlib.Core.Path.{_≡_, refl, sym, ap, _∙_}
+use mathlib.Core.Bool.{false, not}
 use mathlib.Core.Logic.{_↔_}
 use native.Mathlib.Nat.{le-refl, lt-of-le-of-lt, div-one, mul-one, div-eq-of-lt, div-mul-le-self, mul-mod-left}
 use native.Mathlib.Omega.{arith}
-use lib.Dec.{eqb}
-use lib.Pow.{shr-shr, shl-shr}
-use borrow.Author.Tests.{eqb-true, eq-eqb, not-false}
+use lib.Dec.{eqb, ltb}
+use lib.Pow.{shr-shr, shl-shr, split}
+use borrow.Author.Tests.{eqb-true, eq-eqb, ne-eqb, lt-ltb, not-false}
 use Rattle.rules.specs.Table.{prefix, loose}
 
 -- a prefix is at most its address
@@ -64,3 +64,15 @@ loose-false L p = (λ h. eqb-true (prefix L p) p (not-false (eqb (prefix L p) p)
 
 pub loose-prefix : (L address : ℕ) → loose L (prefix L address) ≡ false
 loose-prefix L address = loose-false L (prefix L address) .1 (prefix-again L address)
+
+-- a bit is set after the length exactly if what the prefix leaves of the number is not zero
+pub loose-low : (L p : ℕ) → loose L p ≡ ltb 0 (p % 2 ^ (32 - L))
+unfolding loose prefix
+loose-low L p = go (p % 2 ^ (32 - L)) refl
+  where
+    whole : p / 2 ^ (32 - L) * 2 ^ (32 - L) + p % 2 ^ (32 - L) ≡ p
+    whole = split p (32 - L)
+
+    go : (r : ℕ) → p % 2 ^ (32 - L) ≡ r → not (eqb (p / 2 ^ (32 - L) * 2 ^ (32 - L)) p) ≡ ltb 0 (p % 2 ^ (32 - L))
+    go zero e = rw (e, eq-eqb (p / 2 ^ (32 - L) * 2 ^ (32 - L)) p (omega (arith, whole)))
+    go (suc r) e = rw (e, ne-eqb (p / 2 ^ (32 - L) * 2 ^ (32 - L)) p (λ (same : p / 2 ^ (32 - L) * 2 ^ (32 - L) ≡ p). omega (arith, whole)), lt-ltb 0 (suc r) (omega arith))

@@ -4,11 +4,13 @@ use mathlib.Core.Path.{_≡_, refl, sym, _∙_}
 use mathlib.Core.Bool.{Bool, true, false, not}
 use mathlib.Core.List.{List}
 use native.Mathlib.Nat.{suc-ne-zero}
+use native.Mathlib.Omega.{arith}
 use lib.Dec.{ltb, eqb}
 use lib.ListN.{length}
 use borrow.Author.Tests.{ltb-false, le-ltb, eqb-true, eq-eqb, ne-eqb, not-false}
 use Rattle.rules.specs.declared.Settings.{Settings}
 use Rattle.rules.specs.Table.{Memory, lent, in-range, counters-size, slots-size, prefix, stored, full, passes-15, runs-short, refuse, from-1, sized, loose, memory-refusal, route-refusal, add-refusal, withdraw-refusal, change-refusal, update}
+use Rattle.rules.specs.Ready.{Ready, Counters, Slots}
 use Rattle.rules.proofs.Members.{both}
 use Rattle.rules.proofs.Prefixes.{loose-false}
 
@@ -30,11 +32,17 @@ pub memory-passing : (t : Settings) (m : Memory) → Passing (memory-refusal t m
 unfolding memory-refusal
 memory-passing t m = more-passing (not (in-range t)) 0 (more-passing (not (sized t m)) 1 none-passing)
 
-pub route-passing : (t : Settings) (m : Memory) (L p : ℕ) → Passing (route-refusal t m L p)
+route-then : (t : Settings) (m : Memory) (L p : ℕ) {checks : ℕ → ℕ} → Passing checks → Passing (λ after. route-refusal t m L p (checks after))
 unfolding route-refusal memory-refusal
-route-passing t m L p =
+route-then t m L p h =
     more-passing (not (in-range t)) 0
-    (more-passing (not (sized t m)) 1 (more-passing (ltb 32 L) 2 (more-passing (loose L p) 3 none-passing)))
+    (more-passing (not (sized t m)) 1 (more-passing (ltb 32 L) 2 (more-passing (loose L p) 3 h)))
+
+pub route-passing : (t : Settings) (m : Memory) (L p : ℕ) → Passing (route-refusal t m L p)
+route-passing t m L p = route-then t m L p none-passing
+
+pub hop-passing : (t : Settings) (m : Memory) (L p hop : ℕ) → Passing (λ after. route-refusal t m L p (refuse (ltb 65535 hop) 5 after))
+hop-passing t m L p hop = route-then t m L p (more-passing (ltb 65535 hop) 4 none-passing)
 
 -- a check that passed: its condition does not hold, and those after it passed
 pub passed : (bad : Bool) (number after : ℕ) → refuse bad (suc number) after ≡ 0 → (bad ≡ false) × (after ≡ 0)
@@ -92,6 +100,29 @@ unfolding route-refusal refuse
 route-fits t counters slots L p f after =
     fits t counters slots (f .memory) _ ∙ simp (le-ltb _ _ (f .high), loose-false L p .1 (f .tight))
 
+-- and so the inner steps of an update may count on this
+module _ {t : Settings} {counters slots : List ℕ} {L p : ℕ} (f : RouteFitted t counters slots L p) where
+  pub fitted-ready : (L ≡ 0 → ⊥) → Ready t L
+  fitted-ready up = record { range = f .memory .range; low = omega arith; high = f .high }
+
+  pub fitted-counters : Counters t counters
+  fitted-counters = record { size = f .memory .counters-fit }
+
+  pub fitted-slots : Slots t slots
+  fitted-slots = record { size = f .memory .slots-fit }
+
+-- what 1 to 5 not given tells
+pub record HopFitted (t : Settings) (counters slots : List ℕ) (L p hop : ℕ) : Type 0 where
+  pub route : RouteFitted t counters slots L p
+  pub small : hop ≤ 65535
+
+pub hop-passed : (t : Settings) (counters slots : List ℕ) (L p hop after : ℕ)
+    → route-refusal t (lent counters slots) L p (refuse (ltb 65535 hop) 5 after) ≡ 0 → HopFitted t counters slots L p hop × (after ≡ 0)
+hop-passed t counters slots L p hop after e =
+    let to4 = route-passed t counters slots L p (refuse (ltb 65535 hop) 5 after) e in
+    let to5 = passed (ltb 65535 hop) 4 after (to4 .1) in
+    (record { route = to4 .0; small = ltb-false _ _ (to5 .0) }, to5 .1)
+
 -- a number that checks gave back, of a call that goes no further where it is not 0
 module _ {checks : ℕ → ℕ} (passing : Passing checks) {given : ℕ} (e : given ≡ checks 0) where
   pub stopped : (given ≡ 0 → ⊥) → (after : ℕ) → given ≡ checks after
@@ -127,38 +158,6 @@ add-passed t counters slots p L hop e =
     let to9 = passed (from-1 L (passes-15 t counters L p)) 8 0 (to8 .1) in
     record { route = to4 .0; small = ltb-false _ _ (to5 .0); fresh = to6 .0; room = to8 .0; level = to9 .0 }
 
--- what an accepted withdrawal tells
-pub record WithdrawFitted (t : Settings) (counters slots : List ℕ) (p L : ℕ) : Type 0 where
-  pub route : RouteFitted t counters slots L p
-  pub there : stored t slots L p ≡ true
-  pub level : from-1 L (runs-short t counters L p) ≡ false
-
-pub withdraw-passed : (t : Settings) (counters slots : List ℕ) (p L : ℕ) → withdraw-refusal t (lent counters slots) p L ≡ 0
-    → WithdrawFitted t counters slots p L
-unfolding withdraw-refusal
-withdraw-passed t counters slots p L e =
-    let ten = refuse (from-1 L (runs-short t counters L p)) 10 0 in
-    let to4 = route-passed t counters slots L p (refuse (not (stored t slots L p)) 7 ten) e in
-    let to7 = passed (not (stored t slots L p)) 6 ten (to4 .1) in
-    let to10 = passed (from-1 L (runs-short t counters L p)) 9 0 (to7 .1) in
-    record { route = to4 .0; there = not-false _ (to7 .0); level = to10 .0 }
-
--- what an accepted change tells
-pub record ChangeFitted (t : Settings) (counters slots : List ℕ) (p L hop : ℕ) : Type 0 where
-  pub route : RouteFitted t counters slots L p
-  pub small : hop ≤ 65535
-  pub there : stored t slots L p ≡ true
-
-pub change-passed : (t : Settings) (counters slots : List ℕ) (p L hop : ℕ) → change-refusal t (lent counters slots) p L hop ≡ 0
-    → ChangeFitted t counters slots p L hop
-unfolding change-refusal
-change-passed t counters slots p L hop e =
-    let seven = refuse (not (stored t slots L p)) 7 0 in
-    let to4 = route-passed t counters slots L p (refuse (ltb 65535 hop) 5 seven) e in
-    let to5 = passed (ltb 65535 hop) 4 seven (to4 .1) in
-    let to7 = passed (not (stored t slots L p)) 6 0 (to5 .1) in
-    record { route = to4 .0; small = ltb-false _ _ (to5 .0); there = not-false _ (to7 .0) }
-
 -- an update whose checks gave this number
 module _ (refusal : ℕ) (after before : Memory) {given : ℕ} (e : given ≡ refusal) where
   pub refused-by : (given ≡ 0 → ⊥) → update refusal after before ≡ record { refusal = given; memory = before }
@@ -168,3 +167,32 @@ module _ (refusal : ℕ) (after before : Memory) {given : ℕ} (e : given ≡ re
   pub accepted-by : given ≡ 0 → update refusal after before ≡ record { refusal = 0; memory = after }
   unfolding update
   accepted-by good = rw (← e, good)
+
+-- ---- Each call's checks, in their order
+
+pub memory-order : (t : Settings) (m : Memory) (after : ℕ) → memory-refusal t m after ≡ refuse (not (in-range t)) 1 (refuse (not (sized t m)) 2 after)
+unfolding memory-refusal
+memory-order t m after = refl
+
+pub add-order : (t : Settings) (m : Memory) (p L hop : ℕ) → add-refusal t m p L hop
+    ≡ memory-refusal t m
+    (refuse (ltb 32 L) 3
+    (refuse (loose L p) 4
+    (refuse (ltb 65535 hop) 5
+    (refuse (stored t (m .slots) L p) 6
+    (refuse (from-1 L (full t (m .slots) L p)) 8 (refuse (from-1 L (passes-15 t (m .counters) L p)) 9 0))))))
+unfolding add-refusal route-refusal
+add-order t m p L hop = refl
+
+pub withdraw-order : (t : Settings) (m : Memory) (p L : ℕ) → withdraw-refusal t m p L
+    ≡ memory-refusal t m
+    (refuse (ltb 32 L) 3
+    (refuse (loose L p) 4 (refuse (not (stored t (m .slots) L p)) 7 (refuse (from-1 L (runs-short t (m .counters) L p)) 10 0))))
+unfolding withdraw-refusal route-refusal
+withdraw-order t m p L = refl
+
+pub change-order : (t : Settings) (m : Memory) (p L hop : ℕ) → change-refusal t m p L hop
+    ≡ memory-refusal t m
+    (refuse (ltb 32 L) 3 (refuse (loose L p) 4 (refuse (ltb 65535 hop) 5 (refuse (not (stored t (m .slots) L p)) 7 0))))
+unfolding change-refusal route-refusal
+change-order t m p L hop = refl

@@ -3,7 +3,7 @@ use Prim.Native.Nat.{ℕ, zero, suc, _+_, _-_, _*_, _/_, _%_, _^_, _≤_, _<_, z
 use mathlib.Core.Path.{_≡_, refl, sym, ap, _∙_}
 use mathlib.Core.Bool.{Bool, true, false, cond}
 use mathlib.Core.List.{List, [], _∷_}
-use native.Mathlib.Nat.{not-suc-le-zero, le-of-suc-le-suc, le-refl, mul-assoc, le-suc-iff, zero-add, pow-suc, one-mul, two-pow-succ, sub-self, lt-of-lt-of-le, le-trans, le-step, div-eq-of-lt, mul-add-div-right, mul-add-mod-self-right, mod-lt}
+use native.Mathlib.Nat.{not-suc-le-zero, le-of-suc-le-suc, le-refl, mul-assoc, le-suc-iff, zero-add, pow-suc, one-mul, two-pow-succ, lt-of-lt-of-le, le-trans, le-step, div-eq-of-lt, mul-add-div-right, mul-add-mod-self-right, mod-lt}
 use mathlib.Core.Logic.{_⊎_, inl, inr}
 use native.Mathlib.Decide.{le-ind}
 use native.Mathlib.Numerals.{add-one, sub-one, one-add}
@@ -13,7 +13,7 @@ use lib.Bits.{bitOr, or-shifted-r}
 use lib.Count.{ones, ones-cat}
 use lib.Dec.{eqb}
 use lib.ListN.{length}
-use lib.Pow.{shl-exact, pow-pos, pow-lt, pow-mono, pow-add, split, high, shr-lt}
+use lib.Pow.{shl-exact, pow-pos, pow-mono, pow-add, split, high, shr-lt}
 use Rattle.rules.specs.Tools.{those}
 use Rattle.rules.specs.Table.{bits-where, down-from, bit-set, set-bits}
 
@@ -121,12 +121,6 @@ set-bits-top v (suc n) lo hi above below = rw sub-one (go (rw sub-one at above))
 pub set-bits-zero : set-bits 0 ≡ []
 unfolding set-bits those down-from bit-set
 set-bits-zero = refl
-
--- the vector with one bit
-pub set-bits-one : (L : ℕ) → 1 ≤ L → L ≤ 32 → set-bits (2 ^ (L - 1)) ≡ L ∷ []
-set-bits-one L lo hi =
-    set-bits-top (2 ^ (L - 1)) L lo hi (le-refl (2 ^ (L - 1))) (pow-lt {i = L - 1} (omega arith))
-    ∙ ap (λ (Ls : List ℕ). L ∷ Ls) (ap set-bits (sub-self (2 ^ (L - 1))) ∙ set-bits-zero)
 
 -- one digit counts as one length
 ones-digit : (q : ℕ) → q < 2 → (L : ℕ) (Ls : List ℕ) → ones q + length Ls ≡ length (cond (eqb (q % 2) 1) (L ∷ Ls) Ls)

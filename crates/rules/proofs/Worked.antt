@@ -3,7 +3,6 @@ use Prim.Native.Nat.{ℕ, zero, suc, _+_, _*_, _^_}
 use mathlib.Core.Path.{_≡_, refl}
 use mathlib.Core.Bool.{Bool, true, false, _&&_}
 use mathlib.Core.List.{List, [], _∷_, map, _++_}
-use mathlib.Core.Option.{none}
 use lib.Dec.{eqb}
 use lib.ListN.{getD, length, replicate, set}
 use Rattle.rules.specs.declared.Settings.{Settings}

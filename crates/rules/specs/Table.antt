@@ -125,7 +125,7 @@ holds t slots L p s = let n = slot-number t L p s in occupied (mark-at slots n) 
 unfoldable pub free : Settings → (slots : List ℕ) (L p s : ℕ) → Bool
 free t slots L p s = not (occupied (mark-at slots (slot-number t L p s)))
 
--- the lowest slot of the bucket that is occupied and holds p
+-- the lowest slot of p's bucket that holds p, if one does
 unfoldable pub held : Settings → (slots : List ℕ) (L p : ℕ) → Option ℕ
 held t slots L p = lowest (holds t slots L p) (t .s)
 
@@ -164,15 +164,15 @@ from-1 L bad = cond (eqb L 0) false bad
 unfoldable pub full : Settings → (slots : List ℕ) (L p : ℕ) → Bool
 full t slots L p = not (is-some (vacant t slots L p))
 
--- a counter's hits by p are how many of the K steps land on it
+-- a counter's hits by p: the number of p's K steps that lead to it
 unfoldable pub hits : Settings → (L p i : ℕ) → ℕ
 hits t L p i = count i (counter-places t L p)
 
--- some counter plus its hits by p exceeds 15
+-- with p's hits added, one of p's counters would be above 15
 unfoldable pub passes-15 : Settings → (counters : List ℕ) (L p : ℕ) → Bool
 passes-15 t counters L p = any (λ i. ltb 15 (getD counters i 0 + hits t L p i)) (counter-places t L p)
 
--- some counter is less than its hits by p
+-- p's hits could not all be taken from one of p's counters
 unfoldable pub runs-short : Settings → (counters : List ℕ) (L p : ℕ) → Bool
 runs-short t counters L p = any (λ i. ltb (getD counters i 0) (hits t L p i)) (counter-places t L p)
 
@@ -240,7 +240,7 @@ unfoldable pub with-found : Settings → (slots : List ℕ) (L p : ℕ) → Opti
 with-found t slots L p (some s) q mark = with-slot slots (slot-number t L p s) q mark
 with-found t slots L p none q mark = slots
 
--- add: the lowest free slot gets prefix and mark, and each of the K positions adds one to its counter
+-- add: the lowest free slot gets prefix and mark, and at each of the K steps a counter goes up by one
 unfoldable pub added : Settings → Memory → (p L hop : ℕ) → Memory
 added t m p L hop =
     cond (eqb L 0) (with-default t m (mark-of hop))
@@ -249,7 +249,7 @@ added t m p L hop =
       slots = with-found t (m .slots) L p (vacant t (m .slots) L p) p (mark-of hop);
     })
 
--- withdraw: the slot that holds p gets two zeros, and each of the K positions takes one from its counter
+-- withdraw: the slot that holds p gets two zeros, and at each of the K steps a counter goes down by one
 unfoldable pub withdrawn : Settings → Memory → (p L : ℕ) → Memory
 withdrawn t m p L =
     cond (eqb L 0) (with-default t m 0)

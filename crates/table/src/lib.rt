@@ -1,24 +1,29 @@
 // The gateway table: six calls over lent memory. Nothing is kept between calls but what is lent.
 // No call requires anything: bad input gets its number and changes nothing.
 ghost use mathlib.Core.Path.{_≡_};
+ghost use mathlib.Core.Bool.{not};
+ghost use mathlib.Core.List.{List};
+ghost use Prim.Native.Nat.{ℕ};
 ghost use lib.ListN.{length, replicate};
-ghost use Rattle.rules.specs.Table.{lent, left, clear, add, withdraw, change, match-vector, lookup};
+ghost use Rattle.rules.specs.Table.{lent, left, update, refuse, occupied, default-mark, with-default, clear, add, withdraw, change, match-vector, lookup};
+ghost use Rattle.rules.specs.Ready.{Slots};
 use buckets::Vacancy;
 use buckets::default_mark;
-use buckets::first_free;
+use buckets::is_occupied;
 use buckets::mark_at;
 use buckets::put_default;
 use buckets::put_slot;
 use buckets::search_bucket;
 use buckets::search_buckets;
-use filters::lower;
-use filters::raise;
+use filters::Step;
+use filters::cannot_step;
+use filters::places_of;
+use filters::step_each;
 use hops::answer_default;
 use hops::answer_refused;
 use hops::answer_route;
-use refusals::refuse_add;
-use refusals::refuse_change;
-use refusals::refuse_withdraw;
+use refusals::refuse_hop;
+use refusals::refuse_route;
 use rules::Answer;
 use rules::Place;
 use rules::Settings;
@@ -59,6 +64,30 @@ pub fn clear(settings: Settings, counters: &mut [u8], slots: &mut [u32]) -> u32
     0
 }
 
+// Add's part at length 0: gives the default route a mark, where there is none yet.
+fn add_default(settings: Settings, slots: &mut [u32], mark: u32) -> u32
+    requires { ⌜ Slots settings (now slots) ⌝ }
+    ensures { λ r. ⌜ ((counters : List ℕ) → update (refuse (occupied (default-mark settings (now (slots .entry)))) 6 0) (with-default settings (lent counters (now (slots .entry))) mark) (lent counters (now (slots .entry))) ≡ left r counters (now (slots .exit))) ⌝ }
+{
+    if is_occupied(default_mark(settings, slots)) {
+        return 6;
+    }
+    put_default(settings, slots, mark);
+    0
+}
+
+// Withdraw's and change's: gives it another mark, where there is one.
+fn change_default(settings: Settings, slots: &mut [u32], mark: u32) -> u32
+    requires { ⌜ Slots settings (now slots) ⌝ }
+    ensures { λ r. ⌜ ((counters : List ℕ) → update (refuse (not (occupied (default-mark settings (now (slots .entry))))) 7 0) (with-default settings (lent counters (now (slots .entry))) mark) (lent counters (now (slots .entry))) ≡ left r counters (now (slots .exit))) ⌝ }
+{
+    if !is_occupied(default_mark(settings, slots)) {
+        return 7;
+    }
+    put_default(settings, slots, mark);
+    0
+}
+
 // Stores a route that is not stored yet: prefix p of a length, with its next hop.
 pub fn add(
     settings: Settings,
@@ -70,21 +99,32 @@ pub fn add(
 ) -> u32
     ensures { λ r. ⌜ add settings (lent (now (counters .entry)) (now (slots .entry))) p length hop ≡ left r (now (counters .exit)) (now (slots .exit)) ⌝ }
 {
-    let refusal = refuse_add(settings, counters, slots, p, length, hop);
+    let refusal = refuse_hop(settings, counters, slots, p, length, hop);
     if refusal != 0 {
         return refusal;
     }
     if length == 0 {
-        put_default(settings, slots, hop + 1);
-        return 0;
+        return add_default(settings, slots, hop + 1);
     }
-    let vacancy = first_free(settings, slots, length, p);
-    let Vacancy::At(slot) = vacancy else {
-        // Past the checks there is such a slot.
-        return 0;
+    let found = search_bucket(settings, slots, p, length);
+    let place = found.place;
+    if let Place::At {
+        slot: _,
+        length: _,
+        probes: _,
+    } = place {
+        return 6;
+    }
+    let vacancy = found.vacancy;
+    let Vacancy::At(free) = vacancy else {
+        return 8;
     };
-    put_slot(slots, slot, p, hop + 1);
-    raise(settings, counters, length, p);
+    let places = places_of(settings, p, length);
+    if cannot_step(settings, counters, &places, Step::Raise) {
+        return 9;
+    }
+    put_slot(slots, free, p, hop + 1);
+    step_each(settings, counters, &places, Step::Raise);
     0
 }
 
@@ -98,26 +138,29 @@ pub fn withdraw(
 ) -> u32
     ensures { λ r. ⌜ withdraw settings (lent (now (counters .entry)) (now (slots .entry))) p length ≡ left r (now (counters .exit)) (now (slots .exit)) ⌝ }
 {
-    let refusal = refuse_withdraw(settings, counters, slots, p, length);
+    let refusal = refuse_route(settings, counters, slots, p, length);
     if refusal != 0 {
         return refusal;
     }
     if length == 0 {
-        put_default(settings, slots, 0);
-        return 0;
+        return change_default(settings, slots, 0);
     }
-    let place = search_bucket(settings, slots, length, p);
+    let found = search_bucket(settings, slots, p, length);
+    let place = found.place;
     let Place::At {
         slot,
         length: _,
         probes: _,
     } = place
     else {
-        // Past the checks there is such a slot.
-        return 0;
+        return 7;
     };
+    let places = places_of(settings, p, length);
+    if cannot_step(settings, counters, &places, Step::Lower) {
+        return 10;
+    }
     put_slot(slots, slot, 0, 0);
-    lower(settings, counters, length, p);
+    step_each(settings, counters, &places, Step::Lower);
     0
 }
 
@@ -132,23 +175,22 @@ pub fn change(
 ) -> u32
     ensures { λ r. ⌜ change settings (lent (now (counters .entry)) (now (slots .entry))) p length hop ≡ left r (now (counters .exit)) (now (slots .exit)) ⌝ }
 {
-    let refusal = refuse_change(settings, counters, slots, p, length, hop);
+    let refusal = refuse_hop(settings, counters, slots, p, length, hop);
     if refusal != 0 {
         return refusal;
     }
     if length == 0 {
-        put_default(settings, slots, hop + 1);
-        return 0;
+        return change_default(settings, slots, hop + 1);
     }
-    let place = search_bucket(settings, slots, length, p);
+    let found = search_bucket(settings, slots, p, length);
+    let place = found.place;
     let Place::At {
         slot,
         length: _,
         probes: _,
     } = place
     else {
-        // Past the checks there is such a slot.
-        return 0;
+        return 7;
     };
     put_slot(slots, slot, p, hop + 1);
     0

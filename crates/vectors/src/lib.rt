@@ -17,8 +17,8 @@ pub fn vector_of(settings: Settings, counters: &[u8], address: u32) -> u32
     let mut length: u32 = 0;
     while length < 32 {
         length += 1;
-        let prefix = prefix_of(length, address);
-        if claims_prefix(settings, counters, length, prefix) {
+        let p = prefix_of(address, length);
+        if claims_prefix(settings, counters, p, length) {
             vector = vector | 1 << (length - 1);
         }
     }

@@ -1,2 +1,2 @@
--- The laws that this crate's proofs cite.
-mod Words
+-- The laws that this crate's proofs and those of what C is promised cite.
+pub mod Words

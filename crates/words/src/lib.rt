@@ -30,7 +30,7 @@ fn join(b0: u8, b1: u8, b2: u8, b3: u8) -> u32
 }
 
 // A word, by its number.
-pub fn word_at(bytes: &[u8], i: usize) -> u32
+fn word_at(bytes: &[u8], i: usize) -> u32
     requires { ⌜ i < length (words (now bytes)) ⌝ }
     ensures { λ r. ⌜ r ≡ getD (words (now (bytes .entry))) i 0 ⌝ }
 {
@@ -55,11 +55,11 @@ pub fn default_mark(settings: Settings, slots: &[u8]) -> u32
 }
 
 // Whether a slot, by its number, is occupied and holds a prefix.
-fn holds_at(slots: &[u8], slot: usize, prefix: u32) -> bool
+fn holds_at(slots: &[u8], slot: usize, p: u32) -> bool
     requires { ⌜ mark-word slot < length (words (now slots)) ⌝ }
-    ensures { λ r. ⌜ r ≡ holding (words (now (slots .entry))) slot prefix ⌝ }
+    ensures { λ r. ⌜ r ≡ holding (words (now (slots .entry))) slot p ⌝ }
 {
-    is_occupied(mark_at(slots, slot)) && word_at(slots, 2 * slot) == prefix
+    is_occupied(mark_at(slots, slot)) && word_at(slots, 2 * slot) == p
 }
 
 // Searches the buckets of an address at the lengths whose bits are set in `lengths`, as
@@ -78,7 +78,7 @@ pub fn search_bytes(settings: Settings, slots: &[u8], address: u32, lengths: u32
         let mut s: u32 = 0;
         while s < settings.s {
             let slot = turn.first + s as usize;
-            if holds_at(slots, slot, turn.prefix) {
+            if holds_at(slots, slot, turn.p) {
                 found = Place::At {
                     slot,
                     length: turn.length,

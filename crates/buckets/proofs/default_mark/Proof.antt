@@ -9,12 +9,6 @@ use Rattle.buckets.proofs.Slots.{some-word, last-word}
 use Rattle.buckets.proofs.default_mark.Statement.{statement}
 use Rattle.buckets.proofs.default_mark.Tie as tie
 
-sub-result : tie.Need-sub-result
-sub-result c = some-word _ _ (c .pre)
-
-mul-result : tie.Need-mul-result
-mul-result c = search needs
-
 shared-slice-read-result : tie.Need-shared-slice-read-result
 shared-slice-read-result c = omega (arith, some-word _ _ (c .before .pre))
 
@@ -23,4 +17,6 @@ unfolding default-mark
 returns c = ap (λ (i : ℕ). getD (c .before .args .slots .now) i 0) (last-word _ _ (c .before .pre))
 
 pub default-mark-spec : {M : Type 1} → statement M
-default-mark-spec = tie.close (tie.spec sub-result mul-result shared-slice-read-result returns)
+default-mark-spec =
+    tie.close
+    (tie.spec (λ c. some-word _ _ (c .pre)) (λ c. search needs) shared-slice-read-result returns)

@@ -8,20 +8,13 @@ use Rattle.buckets.proofs.Slots.{some-word, last-word}
 use Rattle.buckets.proofs.put_default.Statement.{statement}
 use Rattle.buckets.proofs.put_default.Tie as tie
 
-sub-last : tie.Need-sub-last
-sub-last c = some-word _ _ (c .pre)
-
-mul-slots : tie.Need-mul-slots
-mul-slots c = search needs
-
 slice-write-slots : tie.Need-slice-write-slots
 slice-write-slots c = omega (arith, some-word _ _ (c .pre))
-
-same-length : tie.Need-same-length
-same-length c = search needs
 
 returns : tie.Need-returns
 returns c = ap (λ (i : ℕ). set (c .args .slots .now) i (c .args .mark)) (last-word _ _ (c .pre))
 
 pub put-default-spec : {M : Type 1} → statement M
-put-default-spec = tie.close (tie.spec sub-last mul-slots slice-write-slots same-length returns)
+put-default-spec =
+    tie.close
+    (tie.spec (λ c. some-word _ _ (c .pre)) (λ c. search needs) slice-write-slots (λ c. search needs) returns)

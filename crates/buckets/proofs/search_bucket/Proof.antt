@@ -1,27 +1,88 @@
--- The vector with one bit has one length, and the search of one length is its bucket's.
-use mathlib.Core.Path.{_∙_}
+-- The loop's invariant carries it: `Met`, of the slots below s.
+use Prim.Native.Nat.{_+_, _-_, _<_}
+use native.Mathlib.Omega.{arith}
 use borrow.Author.Needs.{needs}
-use Rattle.rules.specs.Table.{search as searched}
-use Rattle.rules.proofs.Vectors.{one-bit, set-bits-one}
+use mathlib.Core.Logic.{⊎-elim}
+use lib.ListN.{length}
+use Rattle.rules.specs.Table.{mark-word}
+use Rattle.rules.proofs.Placing.{ranges}
+use Rattle.buckets.proofs.Slots.{is-lent}
+use Rattle.buckets.proofs.Passes.{Met, met-none, met-all, met-free, met-other, met-here}
 use Rattle.buckets.proofs.search_bucket.Statement.{statement}
 use Rattle.buckets.proofs.search_bucket.Tie as tie
 
-sub-search-buckets : tie.Need-sub-search-buckets
-sub-search-buckets c = search needs
+abbrev Inv-loop : tie.InvT-loop
+Inv-loop settings slots p length first vacancy₀ s₀ vacancy s = Met settings slots length p vacancy s
 
-shl-search-buckets : tie.Need-shl-search-buckets
-shl-search-buckets c = search needs
+abbrev μ-loop : tie.MeasureT-loop
+μ-loop settings slots p length first vacancy₀ s₀ vacancy s = settings .s - s
 
-search-buckets-requires : tie.Need-search-buckets-requires
-search-buckets-requires c κs = search needs
+first-slot-requires : tie.Need-first-slot-requires Inv-loop μ-loop
+first-slot-requires c κs = c .before .pre .0
 
-returns : tie.Need-returns
-unfolding searched
+loop-holds : tie.Need-loop-holds Inv-loop μ-loop
+loop-holds c = met-none
+
+-- the slot's words are lent
+words-lent : (c : tie.Then1 Inv-loop μ-loop)
+    → let at-loop = c .before .before in
+    mark-word (at-loop .before .first-slot .result + at-loop .loop .s) < length (at-loop .before .before .before .args .slots .now)
+words-lent c =
+    let after-first = c .before .before .before in
+    let pre = after-first .before .before .pre in
+    is-lent _ _ _ _ _ _ (after-first .first-slot .ensures) (pre .0) (pre .1) (c .if1 .taken)
+
+add-slot : tie.Need-add-slot Inv-loop μ-loop
+unfolding mark-word
+add-slot c = omega (arith, words-lent c)
+
+mark-at-requires : tie.Need-mark-at-requires Inv-loop μ-loop
+mark-at-requires c κs = words-lent c
+
+prefix-at-requires : tie.Need-prefix-at-requires Inv-loop μ-loop
+prefix-at-requires c κs = words-lent (c .before .before .before)
+
+returns : tie.Need-returns Inv-loop μ-loop
 returns c =
-    let start = c .before .before in
-    let ready = start .pre .0 in
-    c .search-buckets .ensures ∙ rw (one-bit _ (ready .low) (ready .high), set-bits-one _ (ready .low) (ready .high), start .pre .1 .1)
+    let tested = c .before .before in
+    let in-loop = tested .before .before .before in
+    let at-loop = in-loop .before .before in
+    met-here (at-loop .loop .inv) (in-loop .if1 .taken) (at-loop .before .first-slot .ensures) (tested .before .before .mark-at .ensures) (tested .before .is-occupied .ensures)
+    (tested .if2 .left) (c .before .prefix-at .ensures) (c .if3 .taken)
+
+add-s : tie.Need-add-s Inv-loop μ-loop
+add-s c = omega (arith, ranges _ (c .before .before .before .before .before .before .before .before .pre .0 .range))
+
+loop-again : tie.Need-loop-again Inv-loop μ-loop
+loop-again c =
+    let occupied = c .before in
+    let in-loop = occupied .before .before in
+    let at-loop = in-loop .before .before in
+    let inv = at-loop .loop .inv in
+    let from = at-loop .before .first-slot .ensures in
+    let mark = occupied .before .mark-at .ensures in
+    ⊎-elim (λ w. rw (w .2, w .1 .ensures) (met-free inv (in-loop .if1 .taken) from mark (occupied .is-occupied .ensures) (w .0 .taken)))
+    (λ w. rw (w .3) (met-other inv (in-loop .if1 .taken) from mark (occupied .is-occupied .ensures) (w .0 .left) (w .1 .ensures) (w .2 .left))) (c .if2 .came)
+
+returns-2 : tie.Need-returns-2 Inv-loop μ-loop
+returns-2 c = met-all (c .before .before .loop .inv) (c .if1 .left)
 
 pub search-bucket-spec : {M : Type 1} → statement M
 search-bucket-spec =
-    tie.close (tie.spec sub-search-buckets shl-search-buckets search-buckets-requires returns)
+    tie.close
+    (tie.spec
+    Inv-loop
+    μ-loop
+    first-slot-requires
+    loop-holds
+    (λ c. omega arith)
+    add-slot
+    mark-at-requires
+    (λ c κs. search needs)
+    (λ c κs. search needs)
+    prefix-at-requires
+    returns
+    add-s
+    (λ c. omega arith)
+    loop-again
+    returns-2)

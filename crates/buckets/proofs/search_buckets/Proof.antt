@@ -9,7 +9,7 @@ use Rattle.buckets.proofs.search_buckets.Statement.{statement}
 use Rattle.buckets.proofs.search_buckets.Tie as tie
 
 abbrev Inv-loop : tie.InvT-loop
-Inv-loop settings slots address lengths found₀ left probes turn s₀ found s = Below settings slots (turn .length) (turn .prefix) found s
+Inv-loop settings slots address lengths found₀ left probes turn s₀ found s = Below settings slots (turn .length) (turn .p) found s
 
 abbrev μ-loop : tie.MeasureT-loop
 μ-loop settings slots address lengths found₀ left probes turn s₀ found s = settings .s - s
@@ -32,9 +32,6 @@ add-probes c = omega (arith, c .before .lengths-test, c .before .before .lengths
 loop-holds : tie.Need-loop-holds Inv-loop μ-loop Inv-lengths μ-lengths
 loop-holds c = opened (c .before .before .lengths .inv .nothing)
 
-cast-slot : tie.Need-cast-slot Inv-loop μ-loop Inv-lengths μ-lengths
-cast-slot c = omega arith
-
 -- the slot's words are lent
 slot-lent : (c : tie.Then1 Inv-loop μ-loop Inv-lengths μ-lengths)
     → let at-loop = c .before .before in
@@ -56,16 +53,13 @@ add-s c =
     let at-loop = c .before .before .before .before .before in
     omega (arith, ranges _ (at-loop .before .before .before .before .before .pre .0))
 
-loop-less : tie.Need-loop-less Inv-loop μ-loop Inv-lengths μ-lengths
-loop-less c = omega arith
-
 loop-again : tie.Need-loop-again Inv-loop μ-loop Inv-lengths μ-lengths
 loop-again c =
     let at-loop = c .before .before .before .before .before in
     passed (at-loop .before .turn-of .ensures) (at-loop .loop .inv) (c .before .holds-at .ensures) (c .if2 .left)
 
 lengths-less : tie.Need-lengths-less Inv-loop μ-loop Inv-lengths μ-lengths
-lengths-less c = less (c .before .before .before .turn-of .ensures)
+lengths-less c = omega (arith, less (c .before .before .before .turn-of .ensures), c .before .before .before .before .lengths-test)
 
 lengths-again : tie.Need-lengths-again Inv-loop μ-loop Inv-lengths μ-lengths
 lengths-again c =
@@ -93,11 +87,11 @@ search-buckets-spec =
     turn-of-requires
     add-probes
     loop-holds
-    cast-slot
+    (λ c. omega arith)
     add-slot
     holds-at-requires
     add-s
-    loop-less
+    (λ c. omega arith)
     loop-again
     lengths-less
     lengths-again

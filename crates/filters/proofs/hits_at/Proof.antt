@@ -6,62 +6,62 @@ use mathlib.Core.Logic.{⊎-elim}
 use native.Mathlib.Nat.{zero-add, add-zero, add-assoc}
 use native.Mathlib.Omega.{arith}
 use borrow.Author.Needs.{needs}
+use lib.ListN.{take}
+use lib.Seq.{slice}
 use Rattle.rules.specs.Tools.{count}
-use Rattle.rules.specs.Table.{hits}
-use Rattle.filters.specs.Places.{places-left}
-use Rattle.filters.proofs.Places.{ready-ranges, all-left, one-left, none-left}
-use Rattle.filters.proofs.Visits.{count-same, count-other}
+use Rattle.filters.specs.Visits.{k-places}
+use Rattle.filters.proofs.Visits.{one-visited, all-visited, count-same, count-other}
 use Rattle.filters.proofs.hits_at.Statement.{statement}
 use Rattle.filters.proofs.hits_at.Tie as tie
 
 abbrev Inv-loop : tie.InvT-loop
-Inv-loop settings length prefix place g₀ found₀ step₀ g found step =
-    (found ≤ step) × (hits settings length prefix place ≡ found + count place (places-left settings length prefix step g))
+Inv-loop places place hits₀ i₀ i-end hits i =
+    (hits ≤ i) × (i ≤ i-end) × (count place (take i-end places) ≡ hits + count place (slice i i-end places))
 
 abbrev μ-loop : tie.MeasureT-loop
-μ-loop settings length prefix place g₀ found₀ step₀ g found step = settings .k - step
+μ-loop places place hits₀ i₀ i-end hits i = i-end - i
 
-product-requires : tie.Need-product-requires Inv-loop μ-loop
-product-requires c κs = search needs
+cast-i-end : tie.Need-cast-i-end Inv-loop μ-loop
+cast-i-end c = search needs
 
 loop-holds : tie.Need-loop-holds Inv-loop μ-loop
-unfolding hits
-loop-holds c = (search needs, ap (count (c .before .args .place)) (all-left _ _ _ (c .product .ensures)) ∙ sym (zero-add _))
+loop-holds c = (search needs, search needs, sym (zero-add _))
 
-place-of-requires : tie.Need-place-of-requires Inv-loop μ-loop
-place-of-requires c κs = search needs
+mul-if1 : tie.Need-mul-if1 Inv-loop μ-loop
+mul-if1 c = omega arith
 
-add-found : tie.Need-add-found Inv-loop μ-loop
-add-found c = omega (arith, ready-ranges (c .before .before .before .before .before .before .pre))
+element-copy-out-if1 : tie.Need-element-copy-out-if1 Inv-loop μ-loop
+element-copy-out-if1 c = omega arith
 
-grow-requires : tie.Need-grow-requires Inv-loop μ-loop
-grow-requires c κs = search needs
+add-hits : tie.Need-add-hits Inv-loop μ-loop
+add-hits c = omega arith
 
-add-step : tie.Need-add-step Inv-loop μ-loop
-add-step c = omega (arith, ready-ranges (c .before .before .before .before .before .before .before .pre))
+add-i : tie.Need-add-i Inv-loop μ-loop
+add-i c = omega arith
 
 loop-less : tie.Need-loop-less Inv-loop μ-loop
 loop-less c = omega arith
 
 loop-again : tie.Need-loop-again Inv-loop μ-loop
 loop-again c =
-    let visit = c .before .before in
-    let head = visit .before .before .before in
-    let next = one-left _ _ _ _ (visit .before .if1 .taken) (visit .place-of .ensures) (c .grow .ensures) in
-    let hits-left = head .loop .inv .1 ∙ ap (λ (l : List ℕ). head .loop .found + count (head .before .before .args .place) l) next in
+    let turn = c .before .before in
+    let head = turn .before in
+    let start = head .before .before in
+    let hits-left = head .loop .inv .2 ∙ ap (λ (l : List ℕ). head .loop .hits + count (start .args .place) l) (one-visited _ _ _ (start .pre .all) (turn .loop-test .taken)) in
     ⊎-elim
-    (λ w. (omega (arith, w .1), hits-left ∙ rw (w .1, count-same _ (w .0 .taken)) (sym (add-assoc _ _ _))))
-    (λ w. (omega (arith, w .1), hits-left ∙ rw (w .1, count-other _ (w .0 .left))))
-    (c .before .if2 .came)
+    (λ w. (omega (arith, w .1), omega arith, hits-left ∙ rw (w .1, count-same _ (w .0 .taken)) (sym (add-assoc _ _ _))))
+    (λ w. (omega (arith, w .1), omega arith, hits-left ∙ rw (w .1, count-other _ (w .0 .left))))
+    (c .if1 .came)
 
 returns : tie.Need-returns Inv-loop μ-loop
-unfolding count
+unfolding k-places count
 returns c =
-    let head = c .before .before in
-    sym
-    (head .loop .inv .1
-    ∙ ap (λ (l : List ℕ). head .loop .found + count (head .before .before .args .place) l) (none-left _ _ _ _ _ (c .if1 .left))
-    ∙ add-zero _)
+    let head = c .before in
+    let last = all-visited _ _ _ (c .loop-test .left) in
+    record {
+      are = sym (head .loop .inv .2 ∙ ap (λ (l : List ℕ). head .loop .hits + count (head .before .before .args .place) l) last ∙ add-zero _);
+      few = omega arith;
+    }
 
 pub hits-at-spec : {M : Type 1} → statement M
 hits-at-spec =
@@ -69,12 +69,12 @@ hits-at-spec =
     (tie.spec
     Inv-loop
     μ-loop
-    product-requires
+    cast-i-end
     loop-holds
-    place-of-requires
-    add-found
-    grow-requires
-    add-step
+    mul-if1
+    element-copy-out-if1
+    add-hits
+    add-i
     loop-less
     loop-again
     returns)

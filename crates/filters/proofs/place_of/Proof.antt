@@ -1,9 +1,11 @@
--- D bits number a counter within the filter, and 32 filters lie side by side.
+-- The top bits of g number a counter of the filter, and the counters are few: `number-fits` and `counters-few`.
 use Prim.Native.Nat.{_+_}
+use mathlib.Core.Path.{refl}
 use native.Mathlib.Omega.{arith}
 use borrow.Author.Needs.{needs}
-use Rattle.filters.specs.Places.{Placed}
-use Rattle.filters.proofs.Places.{ready-ranges, few-counters, placed}
+use Rattle.rules.specs.Table.{filter-bits, counter-place}
+use Rattle.rules.proofs.Placing.{ranges, number-fits, counters-few}
+use Rattle.filters.specs.Visits.{Placed}
 use Rattle.filters.proofs.place_of.Statement.{statement}
 use Rattle.filters.proofs.place_of.Tie as tie
 
@@ -11,16 +13,19 @@ start-of-requires : tie.Need-start-of-requires
 start-of-requires c κs = search needs
 
 top-bits-requires : tie.Need-top-bits-requires
-top-bits-requires c κs = omega (arith, ready-ranges (c .before .pre))
+top-bits-requires c κs = omega (arith, ranges _ (c .before .pre .range))
 
 cast-result : tie.Need-cast-result
 cast-result c = search needs
 
-sum : (c : tie.After-top-bits) → Placed (c .before .before .args .settings) (c .before .before .args .length) (c .before .before .args .g) (c .before .start-of .result + c .top-bits .result)
-sum c = placed _ _ (c .before .before .pre) _ (c .before .before .fits .g .fits) (c .before .start-of .ensures) (c .top-bits .ensures)
+sum : (c : tie.After-top-bits) → let a = c .before .before .args in Placed (a .settings) (a .length) (a .g) (c .before .start-of .result + c .top-bits .result)
+unfolding counter-place filter-bits
+sum c =
+    let start = c .before .before in
+    rw (c .before .start-of .ensures, c .top-bits .ensures) (record { there = refl; inside = number-fits _ _ _ (start .pre) (start .fits .g .fits) })
 
 add-result : tie.Need-add-result
-add-result c = omega (arith, sum c .inside, few-counters _ _ (c .before .before .pre))
+add-result c = omega (arith, sum c .inside, counters-few _ (c .before .before .pre .range))
 
 returns : tie.Need-returns
 returns c = sum c

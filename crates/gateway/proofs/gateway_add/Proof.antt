@@ -1,7 +1,7 @@
 -- The number and the memory are those of the table's call.
 use borrow.Author.Needs.{needs}
 use Rattle.gateway.proofs.Crossings.{fits-above, crossed}
-use Rattle.gateway.proofs.Small.{add-small}
+use Rattle.gateway.proofs.Fitting.{add-fits}
 use Rattle.gateway.proofs.gateway_add.Statement.{statement}
 use Rattle.gateway.proofs.gateway_add.Tie as tie
 
@@ -12,7 +12,7 @@ add-requires : tie.Need-add-requires
 add-requires c κs = search needs
 
 refusal-part-requires : tie.Need-refusal-part-requires
-refusal-part-requires c κs = fits-above (c .before .before .before .before .add .ensures) (add-small _ _ _ _ _)
+refusal-part-requires c κs = fits-above (c .before .before .before .before .add .ensures) (add-fits _ _ _ _ _)
 
 same-length : tie.Need-same-length
 same-length c = search needs

@@ -1,7 +1,7 @@
 -- The number and the memory are those of the table's call.
 use borrow.Author.Needs.{needs}
 use Rattle.gateway.proofs.Crossings.{fits-above, crossed}
-use Rattle.gateway.proofs.Small.{change-small}
+use Rattle.gateway.proofs.Fitting.{change-fits}
 use Rattle.gateway.proofs.gateway_change.Statement.{statement}
 use Rattle.gateway.proofs.gateway_change.Tie as tie
 
@@ -12,7 +12,7 @@ change-requires : tie.Need-change-requires
 change-requires c κs = search needs
 
 refusal-part-requires : tie.Need-refusal-part-requires
-refusal-part-requires c κs = fits-above (c .before .before .before .before .change .ensures) (change-small _ _ _ _ _)
+refusal-part-requires c κs = fits-above (c .before .before .before .before .change .ensures) (change-fits _ _ _ _ _)
 
 same-length : tie.Need-same-length
 same-length c = search needs

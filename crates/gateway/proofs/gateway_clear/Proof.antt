@@ -1,7 +1,7 @@
 -- The number and the memory are those of the table's call.
 use borrow.Author.Needs.{needs}
 use Rattle.gateway.proofs.Crossings.{fits-above, crossed}
-use Rattle.gateway.proofs.Small.{clear-small}
+use Rattle.gateway.proofs.Fitting.{clear-fits}
 use Rattle.gateway.proofs.gateway_clear.Statement.{statement}
 use Rattle.gateway.proofs.gateway_clear.Tie as tie
 
@@ -12,7 +12,7 @@ clear-requires : tie.Need-clear-requires
 clear-requires c κs = search needs
 
 refusal-part-requires : tie.Need-refusal-part-requires
-refusal-part-requires c κs = fits-above (c .before .before .before .before .clear .ensures) (clear-small _ _)
+refusal-part-requires c κs = fits-above (c .before .before .before .before .clear .ensures) (clear-fits _ _)
 
 same-length : tie.Need-same-length
 same-length c = search needs

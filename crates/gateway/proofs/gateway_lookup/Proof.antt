@@ -2,7 +2,7 @@
 use mathlib.Core.Path.{_∙_, ap}
 use borrow.Author.Needs.{needs}
 use Rattle.rules.specs.Table.{answer-number, c-lookup}
-use Rattle.gateway.proofs.Small.{lookup-small}
+use Rattle.gateway.proofs.Fitting.{lookup-fits}
 use Rattle.gateway.proofs.gateway_lookup.Statement.{statement}
 use Rattle.gateway.proofs.gateway_lookup.Tie as tie
 
@@ -13,7 +13,7 @@ lookup-requires : tie.Need-lookup-requires
 lookup-requires c κs = search needs
 
 number-of-answer-requires : tie.Need-number-of-answer-requires
-number-of-answer-requires c κs = rw (c .lookup .ensures) (lookup-small _ _ _)
+number-of-answer-requires c κs = rw (c .lookup .ensures) (lookup-fits _ _ _)
 
 returns : tie.Need-returns
 unfolding c-lookup

@@ -2,7 +2,7 @@
 use mathlib.Core.Path.{_∙_, ap}
 use borrow.Author.Needs.{needs}
 use Rattle.rules.specs.Table.{vector-number, c-match-vector}
-use Rattle.gateway.proofs.Small.{vector-small}
+use Rattle.gateway.proofs.Fitting.{vector-fits}
 use Rattle.gateway.proofs.gateway_match_vector.Statement.{statement}
 use Rattle.gateway.proofs.gateway_match_vector.Tie as tie
 
@@ -13,7 +13,7 @@ match-vector-requires : tie.Need-match-vector-requires
 match-vector-requires c κs = search needs
 
 number-of-vector-requires : tie.Need-number-of-vector-requires
-number-of-vector-requires c κs = rw (c .match-vector .ensures) (vector-small _ _ _)
+number-of-vector-requires c κs = rw (c .match-vector .ensures) (vector-fits _ _ _)
 
 returns : tie.Need-returns
 unfolding c-match-vector

@@ -1,7 +1,7 @@
 -- The number and the memory are those of the table's call.
 use borrow.Author.Needs.{needs}
 use Rattle.gateway.proofs.Crossings.{fits-above, crossed}
-use Rattle.gateway.proofs.Small.{withdraw-small}
+use Rattle.gateway.proofs.Fitting.{withdraw-fits}
 use Rattle.gateway.proofs.gateway_withdraw.Statement.{statement}
 use Rattle.gateway.proofs.gateway_withdraw.Tie as tie
 
@@ -12,7 +12,7 @@ withdraw-requires : tie.Need-withdraw-requires
 withdraw-requires c κs = search needs
 
 refusal-part-requires : tie.Need-refusal-part-requires
-refusal-part-requires c κs = fits-above (c .before .before .before .before .withdraw .ensures) (withdraw-small _ _ _ _)
+refusal-part-requires c κs = fits-above (c .before .before .before .before .withdraw .ensures) (withdraw-fits _ _ _ _)
 
 same-length : tie.Need-same-length
 same-length c = search needs

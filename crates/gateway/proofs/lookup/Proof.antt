@@ -1,15 +1,11 @@
 -- The checks are those of the rules; then the place that the search ends in answers, or the default does.
-use Prim.Native.Nat.{ℕ}
-use mathlib.Core.Path.{_∙_, sym, ap, ap₂}
+use mathlib.Core.Path.{_∙_, sym}
 use denote.Ref.{now}
 use borrow.Author.Needs.{needs}
-use borrow.Author.Tests.{ne-eqb}
-use Rattle.rules.specs.Table.{words, lookup, route-answer, default-answer}
-use Rattle.rules.proofs.Answers.{by-route, by-default}
+use Rattle.rules.specs.Table.{words}
 use Rattle.rules.proofs.Refusals.{Fitted, memory-passed}
-use Rattle.rules.proofs.Placing.{occupied-low}
 use Rattle.rules.proofs.Vectors.{ones-set-bits}
-use Rattle.buckets.proofs.Ends.{Ended, search-ended, set-lengths}
+use Rattle.hops.proofs.Lookups.{stopped, Searched, mark-lent, mark-low, route-answers, default-answers}
 use Rattle.gateway.proofs.lookup.Statement.{statement}
 use Rattle.gateway.proofs.lookup.Tie as tie
 
@@ -20,10 +16,7 @@ answer-refused-requires : tie.Need-answer-refused-requires
 answer-refused-requires c κs = search needs
 
 returns : tie.Need-returns
-unfolding lookup
-returns c =
-    let d = c .before in
-    simp (← (d .before .refuse-bytes .ensures), ne-eqb _ _ (d .if1 .taken)) (c .answer-refused .ensures)
+returns c = stopped _ _ _ _ (c .before .before .refuse-bytes .ensures) (c .before .if1 .taken) (c .answer-refused .ensures)
 
 -- past the checks, the memory fits
 fit : (c : tie.Else1) → let a = c .before .before .before .before .args in Fitted (a .settings) (now (a .counters)) (words (now (a .slots)))
@@ -38,19 +31,16 @@ search-bytes-requires c κs = (fit (c .before) .range, record { size = fit (c .b
 enum-known-place : tie.Need-enum-known-place
 enum-known-place c = search needs
 
--- the search ended in a slot
-ended : (c : tie.After-place) → let a = c .before .before .before .before .before .before .before .before .args in
-    Ended (words (now (a .slots))) (c .place .given .0 .0)
-ended c =
-    let s = c .before .before in
-    let f = fit (s .before .before) in
-    search-ended _ _ (record { size = f .slots-fit }) _ _ _ _ _ (set-lengths _ _ (record { size = f .slots-fit }) _ (f .range)) (sym (s .search-bytes .ensures) ∙ c .place .given .1)
+-- the vector and the place are those of the rules
+searched : (c : tie.After-search-bytes) → let a = c .before .before .before .before .before .before .args in
+    Searched (a .settings) (now (a .counters)) (words (now (a .slots))) (a .address) (c .before .vector-of .result) (c .search-bytes .result)
+searched c = record { fit = fit (c .before .before); claimed = c .before .vector-of .ensures; found = c .search-bytes .ensures }
 
 mark-at-requires : tie.Need-mark-at-requires
-mark-at-requires c κs = ended (c .before) .is-lent
+mark-at-requires c κs = mark-lent (searched (c .before .before .before)) (c .before .place .given .1)
 
 answer-route-requires : tie.Need-answer-route-requires
-answer-route-requires c κs = rw (c .mark-at .ensures) (occupied-low _ (ended (c .before .before) .taken))
+answer-route-requires c κs = mark-low (searched (c .before .before .before .before)) (c .before .before .place .given .1) (c .mark-at .ensures)
 
 enum-told : tie.Need-enum-told
 enum-told c = search needs
@@ -63,20 +53,14 @@ answer-default-requires c κs = search needs
 
 returns-2 : tie.Need-returns-2
 returns-2 c =
-    let m = c .before in
-    let p = m .before .before in
-    let s = p .before .before in
-    let at = p .place .given .0 in
-    c .answer-route .ensures ∙ ap (λ (mark : ℕ). route-answer mark (at .1 .0) (at .1 .1 .0)) (m .mark-at .ensures)
-    ∙ sym (by-route _ _ _ _ _ _ (fit (s .before .before)) (s .before .vector-of .ensures) (s .search-bytes .ensures) _ _ _ (p .place .given .1))
+    let p = c .before .before .before in
+    route-answers (searched (p .before .before)) (p .place .given .1) (c .before .mark-at .ensures) (c .answer-route .ensures)
 
 returns-3 : tie.Need-returns-3
 returns-3 c =
     let d = c .before in
     let s = d .before .before .before in
-    c .answer-default .ensures
-    ∙ ap₂ default-answer (d .default-mark .ensures) (ones-set-bits _ (s .before .vector-of .ok))
-    ∙ sym (by-default _ _ _ _ _ _ (fit (s .before .before)) (s .before .vector-of .ensures) (s .search-bytes .ensures) (d .before .enum-told .given .1))
+    default-answers (searched s) (d .before .enum-told .given .1) (d .default-mark .ensures) (ones-set-bits _ (s .before .vector-of .ok)) (c .answer-default .ensures)
 
 pub lookup-spec : {M : Type 1} → statement M
 lookup-spec =

@@ -6,15 +6,9 @@ use Rattle.rules.specs.Table.{bucket}
 use Rattle.hashes.proofs.bucket_of.Statement.{statement}
 use Rattle.hashes.proofs.bucket_of.Tie as tie
 
-product-requires : tie.Need-product-requires
-product-requires c κs = search needs
-
-top-bits-requires : tie.Need-top-bits-requires
-top-bits-requires c κs = search needs
-
 returns : tie.Need-returns
 unfolding bucket
 returns c = c .top-bits .ensures ∙ ap (λ (g : ℕ). g / 2 ^ (32 - c .before .before .args .settings .e)) (c .before .product .ensures)
 
 pub bucket-of-spec : {M : Type 1} → statement M
-bucket-of-spec = tie.close (tie.spec product-requires top-bits-requires returns)
+bucket-of-spec = tie.close (tie.spec (λ c κs. search needs) (λ c κs. search needs) returns)

@@ -11,12 +11,9 @@ mul-result : tie.Need-mul-result
 mul-result c =
     record { fits = lt-of-le-of-lt (mul-le-mul (le-pred-of-lt (c .fits .a .fits)) (le-pred-of-lt (c .fits .b .fits))) (lit< tt) }
 
-cast-result : tie.Need-cast-result
-cast-result c = search needs
-
 returns : tie.Need-returns
 unfolding wrap
 returns c = refl
 
 pub product-spec : {M : Type 1} → statement M
-product-spec = tie.close (tie.spec mul-result cast-result returns)
+product-spec = tie.close (tie.spec mul-result (λ c. search needs) returns)

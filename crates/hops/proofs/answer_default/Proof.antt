@@ -17,7 +17,7 @@ unfolding default-answer hop-of
 returns c = simp (sym (c .before .is-occupied .ensures) ∙ c .if1 .taken)
 
 returns-2 : tie.Need-returns-2
-unfolding default-answer hop-of
+unfolding default-answer
 returns-2 c = simp (sym (c .before .is-occupied .ensures) ∙ c .if1 .left)
 
 pub answer-default-spec : {M : Type 1} → statement M

@@ -14,12 +14,6 @@ shifted x low high =
     let turns : 4294967295 * x ≡ (x - 1) * 4294967296 + (4294967296 - x) = omega arith in
     rw turns (digits-mod (x - 1) (omega arith))
 
-sub-result : tie.Need-sub-result
-sub-result c = search needs
-
-shl-result : tie.Need-shl-result
-shl-result c = search needs
-
 returns : tie.Need-returns
 returns c = rw (c .if1 .taken)
 
@@ -29,4 +23,4 @@ returns-2 c =
     shifted (2 ^ k) (pow-pos k) (pow-mono {j = 32} (omega arith))
 
 pub mask-spec : {M : Type 1} → statement M
-mask-spec = tie.close (tie.spec sub-result shl-result returns returns-2)
+mask-spec = tie.close (tie.spec (λ c. search needs) (λ c. search needs) returns returns-2)

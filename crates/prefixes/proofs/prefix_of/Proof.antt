@@ -14,9 +14,6 @@ masked n j k w e =
     subst (λ (w : ℕ). n < 2 ^ w → bitAnd n (2 ^ w - 2 ^ k) ≡ n / 2 ^ k * 2 ^ k) e
     (λ h. and-high n j k ∙ ap (λ (x : ℕ). x * 2 ^ k) (shr-mod j k h))
 
-mask-requires : tie.Need-mask-requires
-mask-requires c κs = search needs
-
 returns : tie.Need-returns
 unfolding prefix
 returns c =
@@ -25,4 +22,4 @@ returns c =
     ∙ masked (a .address) (a .length) (32 - a .length) 32 (add-sub-of-le (c .before .pre)) (c .before .fits .address .fits)
 
 pub prefix-of-spec : {M : Type 1} → statement M
-prefix-of-spec = tie.close (tie.spec mask-requires returns)
+prefix-of-spec = tie.close (tie.spec (λ c κs. search needs) returns)

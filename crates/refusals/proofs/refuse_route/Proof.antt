@@ -7,9 +7,6 @@ use Rattle.rules.proofs.Refusals.{memory-passing, memory-passed, route-fits, st
 use Rattle.refusals.proofs.refuse_route.Statement.{statement}
 use Rattle.refusals.proofs.refuse_route.Tie as tie
 
-refuse-memory-requires : tie.Need-refuse-memory-requires
-refuse-memory-requires c κs = search needs
-
 returns : tie.Need-returns
 unfolding route-refusal
 returns c = stopped (memory-passing _ _) (c .before .refuse-memory .ensures) (c .if1 .taken) _
@@ -19,9 +16,6 @@ unfolding route-refusal refuse
 returns-2 c =
     let d = c .before in
     sym (let-by (memory-passing _ _) (d .before .refuse-memory .ensures) (d .if1 .left) _ ∙ simp (lt-ltb _ _ (c .if2 .taken)))
-
-prefix-of-requires : tie.Need-prefix-of-requires
-prefix-of-requires c κs = search needs
 
 returns-3 : tie.Need-returns-3
 unfolding route-refusal refuse loose
@@ -44,4 +38,4 @@ returns-4 c =
 pub refuse-route-spec : {M : Type 1} → statement M
 refuse-route-spec =
     tie.close
-    (tie.spec refuse-memory-requires returns returns-2 prefix-of-requires returns-3 returns-4)
+    (tie.spec (λ c κs. search needs) returns returns-2 (λ c κs. search needs) returns-3 returns-4)

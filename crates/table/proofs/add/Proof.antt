@@ -1,154 +1,138 @@
--- Past the checks the default's word or the lowest vacant slot gets prefix and mark, and the counters are raised, as `add-default` and `add-slot` say.
-use Prim.Native.Nat.{ℕ, _+_}
-use mathlib.Core.Path.{_∙_, sym, ap, ap₂}
-use mathlib.Core.Bool.{true≢false}
+-- Each way out is one of the ways in which the rules' add ends, by what the checks and the search of the bucket found.
+use mathlib.Core.Path.{_≡_, _∙_, sym, ap₂}
+use mathlib.Core.Option.{none}
 use native.Mathlib.Omega.{arith}
 use denote.Ref.{now}
 use borrow.Author.Needs.{needs}
-use Rattle.rules.specs.Table.{add, left, vacant, with-slot}
-use Rattle.rules.proofs.Refusals.{AddFitted, add-passed, refused-by, from-one}
+use Rattle.rules.specs.Table.{left, held, vacant, passes-15}
+use Rattle.rules.specs.Ready.{Ready}
 use Rattle.rules.proofs.Found.{InBucket}
-use Rattle.rules.proofs.Updates.{room-vacant, add-default, add-slot}
-use Rattle.rules.specs.Ready.{Ready, Slots}
+use Rattle.rules.proofs.Refusals.{HopFitted, hop-passed, fitted-ready, fitted-counters, fitted-slots}
+use Rattle.rules.proofs.Updates.{add-refused, add-at-0, add-stored, add-full, add-past-15, add-slot}
+use Rattle.buckets.proofs.Passes.{held-in, held-nowhere, vacant-in, vacant-nowhere}
 use Rattle.buckets.proofs.Ends.{vacant-lent}
-use Rattle.buckets.proofs.Vacancies.{is-full, vacant-at}
+use Rattle.filters.proofs.Visits.{inside-of, cannot-raise, raised}
 use Rattle.table.proofs.add.Statement.{statement}
 use Rattle.table.proofs.add.Tie as tie
 
-refuse-add-requires : tie.Need-refuse-add-requires
-refuse-add-requires c κs = search needs
-
-same-length : tie.Need-same-length
-same-length c = search needs
-
-same-length-2 : tie.Need-same-length-2
-same-length-2 c = search needs
-
 returns : tie.Need-returns
-unfolding add
-returns c = refused-by _ _ _ (c .before .refuse-add .ensures) (c .if1 .taken)
+returns c = add-refused _ _ _ _ _ (c .if1 .taken) _ (c .before .refuse-hop .ensures)
 
 -- what the checks tell
-checked : (c : tie.Else1) → let a = c .before .before .before .before .before .before .args in
-    AddFitted (a .settings) (now (a .counters)) (now (a .slots)) (a .p) (a .length) (a .hop)
-checked c = add-passed _ _ _ _ _ _ (sym (c .before .refuse-add .ensures) ∙ c .if1 .left)
+fit : (c : tie.Else1) → let a = c .before .before .before .before .before .before .args in
+    HopFitted (a .settings) (now (a .counters)) (now (a .slots)) (a .length) (a .p) (a .hop)
+fit c = hop-passed _ _ _ _ _ _ 0 (sym (c .before .refuse-hop .ensures) ∙ c .if1 .left) .0
 
-slots-lent : (c : tie.Else1) → let a = c .before .before .before .before .before .before .args in Slots (a .settings) (now (a .slots))
-slots-lent c = record { size = checked c .route .memory .slots-fit }
-
-add-put-default : tie.Need-add-put-default
-add-put-default c = omega (arith, checked (c .before .before) .small)
-
-put-default-requires : tie.Need-put-default-requires
-put-default-requires c κs = slots-lent (c .before .before)
-
-same-length-3 : tie.Need-same-length-3
-same-length-3 c = search needs
-
-same-length-4 : tie.Need-same-length-4
-same-length-4 c = search needs
+add-add-default : tie.Need-add-add-default
+add-add-default c = omega (arith, fit (c .before .before) .small)
 
 returns-2 : tie.Need-returns-2
 returns-2 c =
-    let put = c .before .before in
-    let d = put .before .before in
-    add-default _ _ _ _ _ _ (d .before .before .refuse-add .ensures) (d .before .if1 .left) (d .if2 .taken)
-    ∙ ap (left 0 _) (sym (put .put-default .ensures))
+    let d = c .before .before in
+    let at-0 = d .before .before in
+    add-at-0 (fit (at-0 .before)) (at-0 .if2 .taken) ∙ d .add-default .ensures _
 
 ready : (c : tie.Else2) → let a = c .before .before .before .before .before .before .before .args in Ready (a .settings) (a .length)
-ready c =
-    let f = checked (c .before) in
-    record { range = f .route .memory .range; low = omega (arith, c .if2 .left); high = f .route .high }
+ready c = fitted-ready (fit (c .before) .route) (c .if2 .left)
 
-first-free-requires : tie.Need-first-free-requires
-first-free-requires c κs = (ready (c .before), slots-lent (c .before .before))
-
-enum-known-vacancy : tie.Need-enum-known-vacancy
-enum-known-vacancy c = search needs
-
-enum-told : tie.Need-enum-told
-enum-told c = search needs
-
-same-length-5 : tie.Need-same-length-5
-same-length-5 c = search needs
-
-same-length-6 : tie.Need-same-length-6
-same-length-6 c = search needs
-
--- past the checks there is a vacant slot
 returns-3 : tie.Need-returns-3
 returns-3 c =
     let s = c .before .before in
-    let d = s .before .before in
-    let a = d .before .before .before .before .before .before .before .args in
-    let bucket = vacant (a .settings) (now (a .slots)) (a .length) (a .p) in
-    let nothing = is-full (a .settings) (a .length) (a .p) bucket (sym (s .first-free .ensures) ∙ c .enum-told .given .1) in
-    absurd (true≢false (sym (room-vacant _ _ _ _ _ _ (d .if2 .left) (checked (d .before))) ∙ nothing))
-
--- the slot that was found
-located : (c : tie.After-vacancy) →
-    let a = c .before .before .before .before .before .before .before .before .before .before .before .args in
-    InBucket (a .settings) (a .length) (a .p) (vacant (a .settings) (now (a .slots)) (a .length) (a .p)) (c .vacancy .given .0 .0)
-located c =
-    let s = c .before .before in
-    let a = s .before .before .before .before .before .before .before .before .before .args in
-    vacant-at (a .settings) (a .length) (a .p) (vacant (a .settings) (now (a .slots)) (a .length) (a .p)) _
-    (sym (s .first-free .ensures) ∙ c .vacancy .given .1)
-
-add-put-slot : tie.Need-add-put-slot
-add-put-slot c = omega (arith, checked (c .before .before .before .before .before .before .before) .small)
-
-put-slot-requires : tie.Need-put-slot-requires
-put-slot-requires c κs =
-    let p = c .before .before in
-    let d = p .before .before .before .before in
-    rw (located p .number) (vacant-lent _ _ (slots-lent (d .before)) _ _ _ (ready d) (located p .there))
-
-raise-requires : tie.Need-raise-requires
-raise-requires c κs =
-    let d = c .before .before .before .before .before .before .before .before .before .before in
-    let f = checked (d .before) in
-    (ready d, (record { size = f .route .memory .counters-fit }, sym (from-one _ _ (d .if2 .left)) ∙ f .level))
-
-same-length-7 : tie.Need-same-length-7
-same-length-7 c = search needs
-
-same-length-8 : tie.Need-same-length-8
-same-length-8 c = search needs
+    let up = s .before .before in
+    add-stored (fit (up .before)) (up .if2 .left) (held-in (s .search-bucket .ensures) (c .enum-told .given .1))
 
 returns-4 : tie.Need-returns-4
 returns-4 c =
-    let up = c .before .before in
-    let put = up .before .before .before .before in
-    let p = put .before .before .before in
-    let d = p .before .before .before .before in
-    let a = d .before .before .before .before .before .before .before .args in
-    add-slot _ _ _ _ _ _ (d .before .before .refuse-add .ensures) (d .before .if1 .left) (d .if2 .left) _ (located p .there)
-    ∙ ap₂ (left 0) (sym (up .raise .ensures))
-    (sym (put .put-slot .ensures ∙ ap (λ (n : ℕ). with-slot (now (a .slots)) n (a .p) (a .hop + 1)) (located p .number)))
+    let absent = c .before .before in
+    let s = absent .before .before in
+    let up = s .before .before in
+    let told = absent .enum-told2 .given .1 in
+    add-full (fit (up .before)) (up .if2 .left) (held-nowhere (s .search-bucket .ensures) told)
+    (vacant-nowhere (s .search-bucket .ensures) told (c .enum-told3 .given .1))
+
+-- the prefix is not held, and this slot is the lowest free one
+free-slot : (c : tie.After-vacancy) → let a = c .before .before .before .before .before .before .before .before .before .before .before .before .before .args in
+    (held (a .settings) (now (a .slots)) (a .length) (a .p) ≡ none)
+    × InBucket (a .settings) (a .length) (a .p) (vacant (a .settings) (now (a .slots)) (a .length) (a .p)) (c .vacancy .given .0 .0)
+free-slot c =
+    let absent = c .before .before in
+    let s = absent .before .before in
+    let told = absent .enum-told2 .given .1 in
+    (held-nowhere (s .search-bucket .ensures) told, vacant-in (s .search-bucket .ensures) told (c .vacancy .given .1))
+
+cannot-step-requires : tie.Need-cannot-step-requires
+cannot-step-requires c κs =
+    let up = c .before .before .before .before .before .before .before .before .before .before in
+    inside-of (c .before .before .places-of .ensures) (ready up) (fitted-counters (fit (up .before) .route))
+
+step-each-requires : tie.Need-step-each-requires
+step-each-requires c κs =
+    let level = c .before .before .before .before .before .before in
+    let up = level .before .before .before .before .before .before .before .before .before .before .before .before in
+    (inside-of (level .before .before .before .before .places-of .ensures) (ready up) (fitted-counters (fit (up .before) .route)), sym (level .before .cannot-step .ensures) ∙ level .if3 .left)
+
+-- 9 is asked as in the rules
+nine : (c : tie.After-cannot-step) → let a = c .before .before .before .before .before .before .before .before .before .before .before .before .before .before .before .before .before .before .args in
+    passes-15 (a .settings) (now (a .counters)) (a .length) (a .p) ≡ c .cannot-step .result
+nine c = sym (c .cannot-step .ensures ∙ cannot-raise (c .before .before .before .places-of .ensures) _)
+
+returns-5 : tie.Need-returns-5
+returns-5 c =
+    let v = c .before .before .before .before .before .before in
+    let up = v .before .before .before .before .before .before in
+    add-past-15 (fit (up .before)) (up .if2 .left) (free-slot v .0) (free-slot v .1) (nine (c .before) ∙ c .if3 .taken)
+
+add-put-slot : tie.Need-add-put-slot
+add-put-slot c = omega (arith, fit (c .before .before .before .before .before .before .before .before .before .before .before .before .before .before) .small)
+
+put-slot-requires : tie.Need-put-slot-requires
+put-slot-requires c κs =
+    let v = c .before .before .before .before .before .before .before in
+    let up = v .before .before .before .before .before .before in
+    vacant-lent _ _ (fitted-slots (fit (up .before) .route)) (ready up) (free-slot v .1)
+
+returns-6 : tie.Need-returns-6
+returns-6 c =
+    let stepped = c .before .before in
+    let put = stepped .before .before .before .before .before in
+    let level = put .before .before in
+    let v = level .before .before .before .before .before .before in
+    let up = v .before .before .before .before .before .before in
+    add-slot (fit (up .before)) (up .if2 .left) (free-slot v .0) (free-slot v .1) (nine (level .before) ∙ level .if3 .left)
+    ∙ ap₂ (left 0) (sym (stepped .step-each .ensures ∙ raised (level .before .before .before .before .places-of .ensures) _)) (sym (put .put-slot .ensures))
 
 pub add-spec : {M : Type 1} → statement M
 add-spec =
     tie.close
     (tie.spec
-    refuse-add-requires
-    same-length
-    same-length-2
+    (λ c κs. search needs)
+    (λ c. search needs)
+    (λ c. search needs)
     returns
-    add-put-default
-    put-default-requires
-    same-length-3
-    same-length-4
+    add-add-default
+    (λ c κs. fitted-slots (fit (c .before .before) .route))
+    (λ c. search needs)
+    (λ c. search needs)
     returns-2
-    first-free-requires
-    enum-known-vacancy
-    enum-told
-    same-length-5
-    same-length-6
+    (λ c κs. (ready (c .before), fitted-slots (fit (c .before .before) .route)))
+    (λ c. search needs)
+    (λ c. search needs)
+    (λ c. search needs)
     returns-3
+    (λ c. search needs)
+    (λ c. search needs)
+    (λ c. search needs)
+    (λ c. search needs)
+    (λ c. search needs)
+    returns-4
+    (λ c κs. ready (c .before .before .before .before .before .before .before))
+    cannot-step-requires
+    (λ c. search needs)
+    (λ c. search needs)
+    returns-5
     add-put-slot
     put-slot-requires
-    raise-requires
-    same-length-7
-    same-length-8
-    returns-4)
+    step-each-requires
+    (λ c. search needs)
+    (λ c. search needs)
+    returns-6)

@@ -1,144 +1,79 @@
--- Past the checks the default's word or the slot that holds the prefix gets the new mark, as `change-default` and `change-slot` say.
-use Prim.Native.Nat.{ℕ, _+_}
+-- Each way out is one of the ways in which the rules' change ends, by what the checks and the search of the bucket found.
 use mathlib.Core.Path.{_∙_, sym, ap}
-use mathlib.Core.Bool.{true≢false}
 use native.Mathlib.Omega.{arith}
 use denote.Ref.{now}
 use borrow.Author.Needs.{needs}
-use Rattle.rules.specs.Table.{change, left, held, with-slot}
-use Rattle.rules.proofs.Refusals.{ChangeFitted, change-passed, refused-by}
-use Rattle.rules.proofs.Found.{InBucket, found-at, found-nowhere, none-is}
-use Rattle.rules.proofs.Updates.{stored-held, change-default, change-slot}
-use Rattle.rules.specs.Ready.{Ready, Slots}
-use Rattle.buckets.proofs.Ends.{held-ended}
+use Rattle.rules.specs.Table.{left}
+use Rattle.rules.proofs.Refusals.{HopFitted, hop-passed, fitted-ready, fitted-slots}
+use Rattle.rules.proofs.Updates.{change-refused, change-at-0, change-absent, change-slot}
+use Rattle.buckets.proofs.Passes.{held-in, held-nowhere}
+use Rattle.buckets.proofs.Ends.{held-lent}
 use Rattle.table.proofs.change.Statement.{statement}
 use Rattle.table.proofs.change.Tie as tie
 
-refuse-change-requires : tie.Need-refuse-change-requires
-refuse-change-requires c κs = search needs
-
-same-length : tie.Need-same-length
-same-length c = search needs
-
-same-length-2 : tie.Need-same-length-2
-same-length-2 c = search needs
-
 returns : tie.Need-returns
-unfolding change
-returns c = refused-by _ _ _ (c .before .refuse-change .ensures) (c .if1 .taken)
+returns c = change-refused _ _ _ _ _ (c .if1 .taken) _ (c .before .refuse-hop .ensures)
 
 -- what the checks tell
-checked : (c : tie.Else1) → let a = c .before .before .before .before .before .before .args in
-    ChangeFitted (a .settings) (now (a .counters)) (now (a .slots)) (a .p) (a .length) (a .hop)
-checked c = change-passed _ _ _ _ _ _ (sym (c .before .refuse-change .ensures) ∙ c .if1 .left)
-
-slots-lent : (c : tie.Else1) → let a = c .before .before .before .before .before .before .args in Slots (a .settings) (now (a .slots))
-slots-lent c = record { size = checked c .route .memory .slots-fit }
-
-add-put-default : tie.Need-add-put-default
-add-put-default c = omega (arith, checked (c .before .before) .small)
-
-put-default-requires : tie.Need-put-default-requires
-put-default-requires c κs = slots-lent (c .before .before)
-
-same-length-3 : tie.Need-same-length-3
-same-length-3 c = search needs
-
-same-length-4 : tie.Need-same-length-4
-same-length-4 c = search needs
+fit : (c : tie.Else1) → let a = c .before .before .before .before .before .before .args in
+    HopFitted (a .settings) (now (a .counters)) (now (a .slots)) (a .length) (a .p) (a .hop)
+fit c = hop-passed _ _ _ _ _ _ 0 (sym (c .before .refuse-hop .ensures) ∙ c .if1 .left) .0
 
 returns-2 : tie.Need-returns-2
 returns-2 c =
-    let put = c .before .before in
-    let d = put .before .before in
-    change-default _ _ _ _ _ _ (d .before .before .refuse-change .ensures) (d .before .if1 .left) (d .if2 .taken)
-    ∙ ap (left 0 _) (sym (put .put-default .ensures))
-
-ready : (c : tie.Else2) → let a = c .before .before .before .before .before .before .before .args in Ready (a .settings) (a .length)
-ready c =
-    let f = checked (c .before) in
-    record { range = f .route .memory .range; low = omega (arith, c .if2 .left); high = f .route .high }
+    let d = c .before .before in
+    let at-0 = d .before .before in
+    change-at-0 (fit (at-0 .before)) (at-0 .if2 .taken) ∙ d .change-default .ensures _
 
 search-bucket-requires : tie.Need-search-bucket-requires
-search-bucket-requires c κs = (ready (c .before), (slots-lent (c .before .before), checked (c .before .before) .route .tight))
+search-bucket-requires c κs =
+    let f = fit (c .before .before) .route in
+    (fitted-ready f (c .before .if2 .left), fitted-slots f)
 
-enum-known-place : tie.Need-enum-known-place
-enum-known-place c = search needs
-
-enum-told : tie.Need-enum-told
-enum-told c = search needs
-
-same-length-5 : tie.Need-same-length-5
-same-length-5 c = search needs
-
-same-length-6 : tie.Need-same-length-6
-same-length-6 c = search needs
-
--- a stored prefix is in its bucket
 returns-3 : tie.Need-returns-3
 returns-3 c =
     let s = c .before .before in
-    let d = s .before .before in
-    let a = d .before .before .before .before .before .before .before .args in
-    let bucket = held (a .settings) (now (a .slots)) (a .length) (a .p) in
-    let nothing = found-nowhere (a .settings) (a .length) (a .p) 1 bucket (sym (s .search-bucket .ensures) ∙ c .enum-told .given .1) in
-    absurd (true≢false (sym (stored-held _ _ _ _ (d .if2 .left) (checked (d .before) .there)) ∙ none-is bucket nothing))
-
--- the slot that the search found
-located : (c : tie.After-place) →
-    let a = c .before .before .before .before .before .before .before .before .before .before .before .args in
-    InBucket (a .settings) (a .length) (a .p) (held (a .settings) (now (a .slots)) (a .length) (a .p)) (c .place .given .0 .0)
-located c =
-    let s = c .before .before in
-    let a = s .before .before .before .before .before .before .before .before .before .args in
-    found-at (a .settings) (a .length) (a .p) 1 (held (a .settings) (now (a .slots)) (a .length) (a .p)) _ _ _
-    (sym (s .search-bucket .ensures) ∙ c .place .given .1)
-
-add-put-slot : tie.Need-add-put-slot
-add-put-slot c = omega (arith, checked (c .before .before .before .before .before .before .before) .small)
+    let up = s .before .before in
+    change-absent (fit (up .before)) (up .if2 .left) (held-nowhere (s .search-bucket .ensures) (c .enum-told .given .1))
 
 put-slot-requires : tie.Need-put-slot-requires
 put-slot-requires c κs =
-    let p = c .before .before in
-    let d = p .before .before .before .before in
-    rw (located p .number) (held-ended _ _ (slots-lent (d .before)) _ _ _ (ready d) (located p .there) .is-lent)
-
-same-length-7 : tie.Need-same-length-7
-same-length-7 c = search needs
-
-same-length-8 : tie.Need-same-length-8
-same-length-8 c = search needs
+    let at = c .before .before in
+    let s = at .before .before in
+    let up = s .before .before in
+    let f = fit (up .before) .route in
+    held-lent _ _ (fitted-slots f) (fitted-ready f (up .if2 .left)) (held-in (s .search-bucket .ensures) (at .place .given .1))
 
 returns-4 : tie.Need-returns-4
 returns-4 c =
     let put = c .before .before in
-    let p = put .before .before .before in
-    let d = p .before .before .before .before in
-    let a = d .before .before .before .before .before .before .before .args in
-    change-slot _ _ _ _ _ _ (d .before .before .refuse-change .ensures) (d .before .if1 .left) (d .if2 .left) _ (located p .there)
-    ∙ ap (left 0 _) (sym (put .put-slot .ensures ∙ ap (λ (n : ℕ). with-slot (now (a .slots)) n (a .p) (a .hop + 1)) (located p .number)))
+    let at = put .before .before .before in
+    let s = at .before .before in
+    let up = s .before .before in
+    change-slot (fit (up .before)) (up .if2 .left) (held-in (s .search-bucket .ensures) (at .place .given .1))
+    ∙ ap (left 0 _) (sym (put .put-slot .ensures))
 
 pub change-spec : {M : Type 1} → statement M
 change-spec =
     tie.close
     (tie.spec
-    refuse-change-requires
-    same-length
-    same-length-2
+    (λ c κs. search needs)
+    (λ c. search needs)
+    (λ c. search needs)
     returns
-    add-put-default
-    put-default-requires
-    same-length-3
-    same-length-4
+    (λ c. omega (arith, fit (c .before .before) .small))
+    (λ c κs. fitted-slots (fit (c .before .before) .route))
+    (λ c. search needs)
+    (λ c. search needs)
     returns-2
     search-bucket-requires
-    enum-known-place
-    enum-told
-    same-length-5
-    same-length-6
+    (λ c. search needs)
+    (λ c. search needs)
+    (λ c. search needs)
+    (λ c. search needs)
     returns-3
-    add-put-slot
+    (λ c. omega (arith, fit (c .before .before .before .before .before .before .before) .small))
     put-slot-requires
-    same-length-7
-    same-length-8
+    (λ c. search needs)
+    (λ c. search needs)
     returns-4)

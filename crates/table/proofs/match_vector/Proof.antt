@@ -7,9 +7,6 @@ use borrow.Author.Needs.{needs}
 use Rattle.table.proofs.match_vector.Statement.{statement}
 use Rattle.table.proofs.match_vector.Tie as tie
 
-refuse-memory-requires : tie.Need-refuse-memory-requires
-refuse-memory-requires c κs = search needs
-
 returns : tie.Need-returns
 unfolding match-vector
 returns c = simp (← (c .before .refuse-memory .ensures), ne-eqb _ _ (c .if1 .taken))
@@ -25,4 +22,4 @@ returns-2 c = simp (← (c .before .before .refuse-memory .ensures), c .before .
 
 pub match-vector-spec : {M : Type 1} → statement M
 match-vector-spec =
-    tie.close (tie.spec refuse-memory-requires returns vector-of-requires returns-2)
+    tie.close (tie.spec (λ c κs. search needs) returns vector-of-requires returns-2)

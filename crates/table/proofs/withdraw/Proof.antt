@@ -1,145 +1,108 @@
--- Past the checks the default's word or the slot that holds the prefix gets zeros, and the counters are lowered, as `withdraw-default` and `withdraw-slot` say.
-use Prim.Native.Nat.{ℕ}
-use mathlib.Core.Path.{_∙_, sym, ap, ap₂}
-use mathlib.Core.Bool.{true≢false}
-use native.Mathlib.Omega.{arith}
+-- Each way out is one of the ways in which the rules' withdraw ends, by what the checks and the search of the bucket found.
+use mathlib.Core.Path.{_≡_, _∙_, sym, ap₂}
 use denote.Ref.{now}
 use borrow.Author.Needs.{needs}
-use Rattle.rules.specs.Table.{withdraw, left, held, with-slot}
-use Rattle.rules.proofs.Refusals.{WithdrawFitted, withdraw-passed, refused-by, from-one}
-use Rattle.rules.proofs.Found.{InBucket, found-at, found-nowhere, none-is}
-use Rattle.rules.proofs.Updates.{stored-held, withdraw-default, withdraw-slot}
-use Rattle.rules.specs.Ready.{Ready, Slots}
-use Rattle.buckets.proofs.Ends.{held-ended}
+use Rattle.rules.specs.Table.{left, held, runs-short}
+use Rattle.rules.specs.Ready.{Ready}
+use Rattle.rules.proofs.Found.{InBucket}
+use Rattle.rules.proofs.Refusals.{RouteFitted, route-passed, fitted-ready, fitted-counters, fitted-slots}
+use Rattle.rules.proofs.Updates.{withdraw-refused, withdraw-at-0, withdraw-absent, withdraw-short, withdraw-slot}
+use Rattle.buckets.proofs.Passes.{held-in, held-nowhere}
+use Rattle.buckets.proofs.Ends.{held-lent}
+use Rattle.filters.proofs.Visits.{inside-of, cannot-lower, lowered}
 use Rattle.table.proofs.withdraw.Statement.{statement}
 use Rattle.table.proofs.withdraw.Tie as tie
 
-refuse-withdraw-requires : tie.Need-refuse-withdraw-requires
-refuse-withdraw-requires c κs = search needs
-
-same-length : tie.Need-same-length
-same-length c = search needs
-
-same-length-2 : tie.Need-same-length-2
-same-length-2 c = search needs
-
 returns : tie.Need-returns
-unfolding withdraw
-returns c = refused-by _ _ _ (c .before .refuse-withdraw .ensures) (c .if1 .taken)
+returns c = withdraw-refused _ _ _ _ _ (c .if1 .taken) (c .before .refuse-route .ensures)
 
 -- what the checks tell
-checked : (c : tie.Else1) → let a = c .before .before .before .before .before .before .args in
-    WithdrawFitted (a .settings) (now (a .counters)) (now (a .slots)) (a .p) (a .length)
-checked c = withdraw-passed _ _ _ _ _ (sym (c .before .refuse-withdraw .ensures) ∙ c .if1 .left)
-
-slots-lent : (c : tie.Else1) → let a = c .before .before .before .before .before .before .args in Slots (a .settings) (now (a .slots))
-slots-lent c = record { size = checked c .route .memory .slots-fit }
-
-put-default-requires : tie.Need-put-default-requires
-put-default-requires c κs = slots-lent (c .before .before)
-
-same-length-3 : tie.Need-same-length-3
-same-length-3 c = search needs
-
-same-length-4 : tie.Need-same-length-4
-same-length-4 c = search needs
+fit : (c : tie.Else1) → let a = c .before .before .before .before .before .before .args in RouteFitted (a .settings) (now (a .counters)) (now (a .slots)) (a .length) (a .p)
+fit c = route-passed _ _ _ _ _ 0 (sym (c .before .refuse-route .ensures) ∙ c .if1 .left) .0
 
 returns-2 : tie.Need-returns-2
 returns-2 c =
-    let put = c .before .before in
-    let d = put .before .before in
-    withdraw-default _ _ _ _ _ (d .before .before .refuse-withdraw .ensures) (d .before .if1 .left) (d .if2 .taken)
-    ∙ ap (left 0 _) (sym (put .put-default .ensures))
+    let d = c .before .before in
+    let at-0 = d .before .before in
+    withdraw-at-0 (fit (at-0 .before)) (at-0 .if2 .taken) ∙ d .change-default .ensures _
 
 ready : (c : tie.Else2) → let a = c .before .before .before .before .before .before .before .args in Ready (a .settings) (a .length)
-ready c =
-    let f = checked (c .before) in
-    record { range = f .route .memory .range; low = omega (arith, c .if2 .left); high = f .route .high }
+ready c = fitted-ready (fit (c .before)) (c .if2 .left)
 
-search-bucket-requires : tie.Need-search-bucket-requires
-search-bucket-requires c κs = (ready (c .before), (slots-lent (c .before .before), checked (c .before .before) .route .tight))
-
-enum-known-place : tie.Need-enum-known-place
-enum-known-place c = search needs
-
-enum-told : tie.Need-enum-told
-enum-told c = search needs
-
-same-length-5 : tie.Need-same-length-5
-same-length-5 c = search needs
-
-same-length-6 : tie.Need-same-length-6
-same-length-6 c = search needs
-
--- a stored prefix is in its bucket
 returns-3 : tie.Need-returns-3
 returns-3 c =
     let s = c .before .before in
-    let d = s .before .before in
-    let a = d .before .before .before .before .before .before .before .args in
-    let bucket = held (a .settings) (now (a .slots)) (a .length) (a .p) in
-    let nothing = found-nowhere (a .settings) (a .length) (a .p) 1 bucket (sym (s .search-bucket .ensures) ∙ c .enum-told .given .1) in
-    absurd (true≢false (sym (stored-held _ _ _ _ (d .if2 .left) (checked (d .before) .there)) ∙ none-is bucket nothing))
+    let up = s .before .before in
+    withdraw-absent (fit (up .before)) (up .if2 .left) (held-nowhere (s .search-bucket .ensures) (c .enum-told .given .1))
 
--- the slot that the search found
-located : (c : tie.After-place) →
-    let a = c .before .before .before .before .before .before .before .before .before .before .before .args in
+-- the slot that holds the prefix
+held-slot : (c : tie.After-place) → let a = c .before .before .before .before .before .before .before .before .before .before .before .args in
     InBucket (a .settings) (a .length) (a .p) (held (a .settings) (now (a .slots)) (a .length) (a .p)) (c .place .given .0 .0)
-located c =
-    let s = c .before .before in
-    let a = s .before .before .before .before .before .before .before .before .before .args in
-    found-at (a .settings) (a .length) (a .p) 1 (held (a .settings) (now (a .slots)) (a .length) (a .p)) _ _ _
-    (sym (s .search-bucket .ensures) ∙ c .place .given .1)
+held-slot c = held-in (c .before .before .search-bucket .ensures) (c .place .given .1)
 
-put-slot-requires : tie.Need-put-slot-requires
-put-slot-requires c κs =
-    let p = c .before .before in
-    let d = p .before .before .before .before in
-    rw (located p .number) (held-ended _ _ (slots-lent (d .before)) _ _ _ (ready d) (located p .there) .is-lent)
+cannot-step-requires : tie.Need-cannot-step-requires
+cannot-step-requires c κs =
+    let up = c .before .before .before .before .before .before .before .before in
+    inside-of (c .before .before .places-of .ensures) (ready up) (fitted-counters (fit (up .before)))
 
-lower-requires : tie.Need-lower-requires
-lower-requires c κs =
-    let d = c .before .before .before .before .before .before .before .before .before .before in
-    let f = checked (d .before) in
-    (ready d, (record { size = f .route .memory .counters-fit }, sym (from-one _ _ (d .if2 .left)) ∙ f .level))
+step-each-requires : tie.Need-step-each-requires
+step-each-requires c κs =
+    let enough = c .before .before .before .before .before .before in
+    let up = enough .before .before .before .before .before .before .before .before .before .before in
+    (inside-of (enough .before .before .before .before .places-of .ensures) (ready up) (fitted-counters (fit (up .before))), sym (enough .before .cannot-step .ensures) ∙ enough .if3 .left)
 
-same-length-7 : tie.Need-same-length-7
-same-length-7 c = search needs
-
-same-length-8 : tie.Need-same-length-8
-same-length-8 c = search needs
+-- 10 is asked as in the rules
+ten : (c : tie.After-cannot-step) → let a = c .before .before .before .before .before .before .before .before .before .before .before .before .before .before .before .before .args in
+    runs-short (a .settings) (now (a .counters)) (a .length) (a .p) ≡ c .cannot-step .result
+ten c = sym (c .cannot-step .ensures ∙ cannot-lower (c .before .before .before .places-of .ensures) _)
 
 returns-4 : tie.Need-returns-4
 returns-4 c =
-    let down = c .before .before in
-    let put = down .before .before .before .before in
-    let p = put .before .before .before in
-    let d = p .before .before .before .before in
-    let a = d .before .before .before .before .before .before .before .args in
-    withdraw-slot _ _ _ _ _ (d .before .before .refuse-withdraw .ensures) (d .before .if1 .left) (d .if2 .left) _ (located p .there)
-    ∙ ap₂ (left 0) (sym (down .lower .ensures))
-    (sym (put .put-slot .ensures ∙ ap (λ (n : ℕ). with-slot (now (a .slots)) n 0 0) (located p .number)))
+    let at = c .before .before .before .before .before .before in
+    let up = at .before .before .before .before in
+    withdraw-short (fit (up .before)) (up .if2 .left) (held-slot at) (ten (c .before) ∙ c .if3 .taken)
+
+put-slot-requires : tie.Need-put-slot-requires
+put-slot-requires c κs =
+    let at = c .before .before .before .before .before .before .before in
+    let up = at .before .before .before .before in
+    held-lent _ _ (fitted-slots (fit (up .before))) (ready up) (held-slot at)
+
+returns-5 : tie.Need-returns-5
+returns-5 c =
+    let stepped = c .before .before in
+    let put = stepped .before .before .before .before .before in
+    let enough = put .before .before in
+    let at = enough .before .before .before .before .before .before in
+    let up = at .before .before .before .before in
+    withdraw-slot (fit (up .before)) (up .if2 .left) (held-slot at) (ten (enough .before) ∙ enough .if3 .left)
+    ∙ ap₂ (left 0) (sym (stepped .step-each .ensures ∙ lowered (enough .before .before .before .before .places-of .ensures) _)) (sym (put .put-slot .ensures))
 
 pub withdraw-spec : {M : Type 1} → statement M
 withdraw-spec =
     tie.close
     (tie.spec
-    refuse-withdraw-requires
-    same-length
-    same-length-2
+    (λ c κs. search needs)
+    (λ c. search needs)
+    (λ c. search needs)
     returns
-    put-default-requires
-    same-length-3
-    same-length-4
+    (λ c κs. fitted-slots (fit (c .before .before)))
+    (λ c. search needs)
+    (λ c. search needs)
     returns-2
-    search-bucket-requires
-    enum-known-place
-    enum-told
-    same-length-5
-    same-length-6
+    (λ c κs. (ready (c .before), fitted-slots (fit (c .before .before))))
+    (λ c. search needs)
+    (λ c. search needs)
+    (λ c. search needs)
+    (λ c. search needs)
     returns-3
+    (λ c κs. ready (c .before .before .before .before .before))
+    cannot-step-requires
+    (λ c. search needs)
+    (λ c. search needs)
+    returns-4
     put-slot-requires
-    lower-requires
-    same-length-7
-    same-length-8
-    returns-4)
+    step-each-requires
+    (λ c. search needs)
+    (λ c. search needs)
+    returns-5)

@@ -6,9 +6,6 @@ use Rattle.buckets.proofs.Slots.{some-word, last-word}
 use Rattle.words.proofs.default_mark.Statement.{statement}
 use Rattle.words.proofs.default_mark.Tie as tie
 
-word-count-requires : tie.Need-word-count-requires
-word-count-requires c κs = search needs
-
 sub-word-at : tie.Need-sub-word-at
 sub-word-at c = rw (c .word-count .ensures) (some-word _ _ (c .before .before .pre))
 
@@ -21,4 +18,4 @@ unfolding default-mark
 returns c = rw (c .word-at .ensures, c .before .word-count .ensures, last-word _ _ (c .before .before .before .pre))
 
 pub default-mark-spec : {M : Type 1} → statement M
-default-mark-spec = tie.close (tie.spec word-count-requires sub-word-at word-at-requires returns)
+default-mark-spec = tie.close (tie.spec (λ c κs. search needs) sub-word-at word-at-requires returns)

@@ -6,12 +6,6 @@ use Rattle.words.proofs.Words.{reaches}
 use Rattle.words.proofs.holds_at.Statement.{statement}
 use Rattle.words.proofs.holds_at.Tie as tie
 
-mark-at-requires : tie.Need-mark-at-requires
-mark-at-requires c κs = search needs
-
-is-occupied-requires : tie.Need-is-occupied-requires
-is-occupied-requires c κs = search needs
-
 mul-word-at : tie.Need-mul-word-at
 unfolding mark-word
 mul-word-at c = omega (arith, reaches _ _ (c .before .before .before .before .pre))
@@ -34,4 +28,4 @@ returns-2 c =
 pub holds-at-spec : {M : Type 1} → statement M
 holds-at-spec =
     tie.close
-    (tie.spec mark-at-requires is-occupied-requires mul-word-at word-at-requires returns returns-2)
+    (tie.spec (λ c κs. search needs) (λ c κs. search needs) mul-word-at word-at-requires returns returns-2)

@@ -30,9 +30,6 @@ add-join-3 c = omega (arith, reaches _ _ (c .before .before .before .before .pre
 shared-slice-read-join-4 : tie.Need-shared-slice-read-join-4
 shared-slice-read-join-4 c = omega (arith, reaches _ _ (c .before .before .before .before .before .pre))
 
-join-requires : tie.Need-join-requires
-join-requires c κs = search needs
-
 returns : tie.Need-returns
 returns c = c .join .ensures ∙ sym (word-is _ _ (c .before .before .before .before .before .before .pre))
 
@@ -48,5 +45,5 @@ word-at-spec =
     shared-slice-read-join-3
     add-join-3
     shared-slice-read-join-4
-    join-requires
+    (λ c κs. search needs)
     returns)

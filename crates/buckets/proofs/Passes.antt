@@ -1,0 +1,117 @@
+-- A pass over a bucket, slot by slot: what it has met below slot s, and what its answer tells.
+use Prim.Native.Nat.{ℕ, _+_, _≤_, _<_}
+use mathlib.Core.Path.{_≡_, refl, sym, ap, _∙_}
+use mathlib.Core.Bool.{Bool, true, false, not}
+use mathlib.Core.List.{List}
+use mathlib.Core.Option.{Option, some, none}
+use native.Mathlib.Nat.{le-antisymm}
+use native.Mathlib.Numerals.{add-one}
+use native.Mathlib.Omega.{arith}
+use lib.Dec.{eqb}
+use borrow.Author.Tests.{eq-eqb, ne-eqb, not-false}
+use Rattle.rules.specs.declared.Settings.{Settings}
+use Rattle.rules.specs.declared.Place.the-variants.{At, Absent}
+use Rattle.rules.specs.Tools.{lowest, or-else}
+use Rattle.rules.specs.Table.{slot-number, mark-at, prefix-at, occupied, holds, free, held, vacant}
+use Rattle.rules.proofs.Lowest.{lowest-on, lowest-here}
+use Rattle.rules.proofs.Found.{InBucket, found-at, found-nowhere}
+use Rattle.buckets.specs.declared.Vacancy.{Vacancy}
+use Rattle.buckets.specs.declared.Vacancy.the-variants.{At as Free, Full}
+use Rattle.buckets.specs.declared.Searched.{Searched}
+use Rattle.buckets.specs.Passes.{Passed, vacancy-of, or-this}
+use Rattle.buckets.proofs.Slots.{counted, free-by, free-holds, holds-by}
+
+-- no slot below s holds p, and the vacancy is the lowest free one of them
+pub record Met (t : Settings) (slots : List ℕ) (L p : ℕ) (vacancy : Vacancy) (s : ℕ) : Type 0 where
+  pub within : s ≤ t .s
+  pub none-holds : lowest (holds t slots L p) s ≡ none
+  pub first-free : vacancy ≡ vacancy-of t L p (lowest (free t slots L p) s)
+
+-- an earlier free slot stays the first; without one it is slot s
+kept : (t : Settings) (L p : ℕ) (o : Option ℕ) (s slot : ℕ) → slot ≡ slot-number t L p s → or-this (vacancy-of t L p o) slot ≡ vacancy-of t L p (or-else o (some s))
+kept t L p (some earlier) s slot e = refl
+kept t L p none s slot e = ap Free e
+
+-- and an occupied one changes nothing
+unmoved : (o : Option ℕ) → or-else o none ≡ o
+unmoved (some earlier) = refl
+unmoved none = refl
+
+-- a vacancy told by its variant
+free-at : (t : Settings) (L p : ℕ) (o : Option ℕ) (slot : ℕ) → vacancy-of t L p o ≡ Free slot → InBucket t L p o slot
+free-at t L p (some s) slot e = record { s = s; there = refl; number = cc }
+free-at t L p none slot e = absurd (let z : _≡_ {A = ℕ} 0 1 = cc in omega arith)
+
+is-full : (t : Settings) (L p : ℕ) (o : Option ℕ) → vacancy-of t L p o ≡ Full → o ≡ none
+is-full t L p (some s) e = absurd (let z : _≡_ {A = ℕ} 0 1 = cc in omega arith)
+is-full t L p none e = refl
+
+module _ {t : Settings} {slots : List ℕ} {L p : ℕ} where
+  -- before the first slot, and past the last
+  pub met-none : Met t slots L p Full 0
+  unfolding lowest
+  met-none = record { within = omega arith; none-holds = refl; first-free = refl }
+
+  pub met-all : {vacancy : Vacancy} {s : ℕ} → Met t slots L p vacancy s → t .s ≤ s → Passed t slots L p (record { place = Absent; vacancy = vacancy })
+  unfolding held
+  met-all {vacancy} {s} met all =
+      let last : s ≡ t .s = le-antisymm (met .within) all in
+      let nothing = rw last at (met .none-holds) in
+      record { place = rw nothing; vacancy = met .first-free ∙ rw (nothing, last) }
+
+  -- slot s, by what the code reads and tests of it
+  module _ {vacancy : Vacancy} {s first mark : ℕ} {r : Bool} (met : Met t slots L p vacancy s) (below : s < t .s)
+      (from : first ≡ slot-number t L p 0) (m : mark ≡ mark-at slots (first + s)) (o : r ≡ occupied mark) where
+    is-free : free t slots L p s ≡ not r
+    is-free = free-by t slots L p s first from mark r m o
+
+    pub met-free : not r ≡ true → Met t slots L p (or-this vacancy (first + s)) (s + 1)
+    unfolding lowest
+    met-free denied =
+        record {
+          within = omega arith;
+          none-holds = lowest-on (holds t slots L p) s (met .none-holds) (free-holds t slots L p s (is-free ∙ denied));
+          first-free = rw (add-one, is-free ∙ denied, met .first-free) (kept t L p (lowest (free t slots L p) s) s _ (counted t L p s first from));
+        }
+
+    -- occupied, with this prefix
+    module _ (taken : not r ≡ false) {q : ℕ} (own : q ≡ prefix-at slots (first + s)) where
+      by-prefix : holds t slots L p s ≡ eqb q p
+      by-prefix = holds-by t slots L p s first from _ (rw (own, ← m, ← o, not-false r taken))
+
+      pub met-other : (q ≡ p → ⊥) → Met t slots L p vacancy (s + 1)
+      unfolding lowest
+      met-other other =
+          record {
+            within = omega arith;
+            none-holds = lowest-on (holds t slots L p) s (met .none-holds) (by-prefix ∙ ne-eqb _ _ other);
+            first-free = met .first-free ∙ rw (add-one, is-free ∙ taken, unmoved (lowest (free t slots L p) s));
+          }
+
+      pub met-here : q ≡ p → Passed t slots L p (record { place = At (first + s) L 1; vacancy = vacancy })
+      unfolding held
+      met-here same =
+          let lowest-is = lowest-here (holds t slots L p) _ _ below (met .none-holds) (by-prefix ∙ eq-eqb _ _ same) in
+          record {
+            place = rw (lowest-is, counted t L p s first from);
+            vacancy = met .first-free ∙ rw lowest-is;
+          }
+
+  -- what the answer tells: where p is held, or that it is not, and then where a free slot is, or that there is none
+  module _ {r : Searched} (passed : Passed t slots L p r) where
+    pub held-in : {slot M n : ℕ} → r .place ≡ At slot M n → InBucket t L p (held t slots L p) slot
+    held-in told = found-at t L p 1 (held t slots L p) _ _ _ (sym (passed .place) ∙ told)
+
+    module _ (told : r .place ≡ Absent) where
+      pub held-nowhere : held t slots L p ≡ none
+      held-nowhere = found-nowhere t L p 1 (held t slots L p) (sym (passed .place) ∙ told)
+
+      all-passed : r .vacancy ≡ vacancy-of t L p (vacant t slots L p)
+      unfolding vacant
+      all-passed = passed .vacancy ∙ rw held-nowhere
+
+      pub vacant-in : {slot : ℕ} → r .vacancy ≡ Free slot → InBucket t L p (vacant t slots L p) slot
+      vacant-in free = free-at t L p (vacant t slots L p) _ (sym all-passed ∙ free)
+
+      pub vacant-nowhere : r .vacancy ≡ Full → vacant t slots L p ≡ none
+      vacant-nowhere full = is-full t L p (vacant t slots L p) (sym all-passed ∙ full)

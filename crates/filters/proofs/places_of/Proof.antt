@@ -1,0 +1,83 @@
+-- The places are those written so far and those that are left: `one-written`.
+use Prim.Native.Nat.{_-_, _<_}
+use mathlib.Core.Path.{refl}
+use native.Mathlib.Omega.{arith}
+use borrow.Author.Needs.{needs}
+use Rattle.rules.proofs.Placing.{ranges}
+use Rattle.filters.specs.Visits.{k-places}
+use Rattle.filters.proofs.Hashing.{Written, all-left, one-written, all-written}
+use Rattle.filters.proofs.places_of.Statement.{statement}
+use Rattle.filters.proofs.places_of.Tie as tie
+
+abbrev Inv-loop : tie.InvT-loop
+Inv-loop settings p length growth g₀ places₀ step₀ step-end g places step = Written settings length p growth places step g
+
+abbrev μ-loop : tie.MeasureT-loop
+μ-loop settings p length growth g₀ places₀ step₀ step-end g places step = step-end - step
+
+growth-of-requires : tie.Need-growth-of-requires Inv-loop μ-loop
+growth-of-requires c κs = search needs
+
+product-requires : tie.Need-product-requires Inv-loop μ-loop
+product-requires c κs = search needs
+
+cast-step-end : tie.Need-cast-step-end Inv-loop μ-loop
+cast-step-end c = search needs
+
+loop-holds : tie.Need-loop-holds Inv-loop μ-loop
+loop-holds c =
+    let a = c .before .before .before .args in
+    record {
+      size = refl;
+      ends = all-left (a .settings) (a .length) _ (a .p) (c .before .before .growth-of .ensures) (c .before .product .ensures);
+      few = search needs;
+    }
+
+place-of-requires : tie.Need-place-of-requires Inv-loop μ-loop
+place-of-requires c κs = search needs
+
+few : (c : tie.In-loop Inv-loop μ-loop) → c .before .loop .step < 8
+few c = omega (arith, ranges _ (c .before .before .before .before .before .pre .range))
+
+mul-places : tie.Need-mul-places Inv-loop μ-loop
+mul-places c = omega (arith, few (c .before))
+
+array-write-places : tie.Need-array-write-places Inv-loop μ-loop
+array-write-places c = few (c .before)
+
+grow-requires : tie.Need-grow-requires Inv-loop μ-loop
+grow-requires c κs = search needs
+
+add-step : tie.Need-add-step Inv-loop μ-loop
+add-step c = omega (arith, few (c .before .before))
+
+loop-less : tie.Need-loop-less Inv-loop μ-loop
+loop-less c = omega arith
+
+loop-again : tie.Need-loop-again Inv-loop μ-loop
+loop-again c =
+    let turn = c .before .before in
+    one-written (turn .before .loop .inv) (turn .loop-test .taken) (few turn) (c .before .place-of .ensures) (c .grow .ensures)
+
+returns : tie.Need-returns Inv-loop μ-loop
+unfolding k-places
+returns c = record { are = all-written (c .before .loop .inv) (c .loop-test .left) }
+
+pub places-of-spec : {M : Type 1} → statement M
+places-of-spec =
+    tie.close
+    (tie.spec
+    Inv-loop
+    μ-loop
+    growth-of-requires
+    product-requires
+    cast-step-end
+    loop-holds
+    place-of-requires
+    mul-places
+    array-write-places
+    grow-requires
+    add-step
+    loop-less
+    loop-again
+    returns)

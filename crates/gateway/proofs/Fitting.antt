@@ -1,0 +1,114 @@
+-- Every part of what a call gives back fits into its place: of a refusal because each number that a check can give does,
+-- of an answer because its hop is an occupied mark's and its length and its probes are among 32.
+use Prim.Native.Nat.{ℕ, zero, suc, _+_, _≤_}
+use mathlib.Core.Path.{_≡_, refl}
+use mathlib.Core.Bool.{Bool, true, false, cond}
+use mathlib.Core.List.{List, _∷_}
+use mathlib.Core.Option.{Option, some, none}
+use native.Mathlib.Nat.{le-refl}
+use native.Mathlib.Omega.{arith}
+use lib.Dec.{ltb, eqb}
+use lib.ListN.{length}
+use borrow.Author.Tests.{ltb-true}
+use Rattle.rules.specs.declared.Settings.{Settings}
+use Rattle.rules.specs.declared.Place.{Place}
+use Rattle.rules.specs.Tools.{those}
+use Rattle.rules.specs.Table.{prefix, occupied, hop-of, default-mark, holds, held, Memory, refuse, memory-refusal, route-refusal, add-refusal, withdraw-refusal, change-refusal, update, clear, add, withdraw, change, match-vector, down-from, bit-set, set-bits, vector-of, found-or, search as searched, route-answer, default-answer, place-answer, refused, answer-of, lookup}
+use Rattle.rules.proofs.Marks.{hop-high}
+use Rattle.rules.proofs.Members.{both}
+use Rattle.rules.proofs.Lowest.{some-lowest}
+use Rattle.gateway.specs.Crossing.{refusals-end, RefusalFits, Fits}
+
+-- ---- Refusals
+
+-- a check's own number fits, and so does what comes after it
+refuse-fits : (bad : Bool) (number : ℕ) {after : ℕ} → ltb number refusals-end ≡ true → RefusalFits after → RefusalFits (refuse bad number after)
+unfolding refuse
+refuse-fits true number n a = ltb-true number refusals-end n
+refuse-fits false number n a = a
+
+-- no refusal
+none-fits : RefusalFits 0
+none-fits = omega arith
+
+pub memory-fits : (t : Settings) (m : Memory) → RefusalFits (memory-refusal t m 0)
+unfolding memory-refusal
+memory-fits t m = search (refuse-fits, none-fits) depth 20
+
+pub clear-fits : (t : Settings) (m : Memory) → RefusalFits (clear t m .refusal)
+unfolding clear update
+clear-fits = memory-fits
+
+pub add-fits : (t : Settings) (m : Memory) (p L hop : ℕ) → RefusalFits (add t m p L hop .refusal)
+unfolding add update add-refusal route-refusal memory-refusal
+add-fits t m p L hop = search (refuse-fits, none-fits) depth 20
+
+pub withdraw-fits : (t : Settings) (m : Memory) (p L : ℕ) → RefusalFits (withdraw t m p L .refusal)
+unfolding withdraw update withdraw-refusal route-refusal memory-refusal
+withdraw-fits t m p L = search (refuse-fits, none-fits) depth 20
+
+pub change-fits : (t : Settings) (m : Memory) (p L hop : ℕ) → RefusalFits (change t m p L hop .refusal)
+unfolding change update change-refusal route-refusal memory-refusal
+change-fits t m p L hop = search (refuse-fits, none-fits) depth 20
+
+pub vector-fits : (t : Settings) (m : Memory) (address : ℕ) → RefusalFits (match-vector t m address .refusal)
+unfolding match-vector
+vector-fits t m address = memory-fits t m
+
+-- ---- Answers
+
+default-fits : (mark probes : ℕ) → probes ≤ 32 → Fits (default-answer mark probes)
+unfolding default-answer
+default-fits mark probes few = record { refusal = omega arith; hop = omega (arith, go (occupied mark) refl); length = omega arith; probes = omega arith }
+  where
+    go : (b : Bool) → occupied mark ≡ b → cond b (hop-of mark) 0 ≤ 65535
+    go true h = hop-high mark h
+    go false h = omega arith
+
+-- among n lengths there are at most n
+few-lengths : (test : ℕ → Bool) (n : ℕ) → length (those test (down-from n)) ≤ n
+unfolding those down-from
+few-lengths test zero = le-refl 0
+few-lengths test (suc n) = go (test (suc n)) (few-lengths test n)
+  where
+    go : (b : Bool) → length (those test (down-from n)) ≤ n → length (cond b (suc n ∷ those test (down-from n)) (those test (down-from n))) ≤ suc n
+    go true h = omega arith
+    go false h = omega arith
+
+module _ (t : Settings) (slots : List ℕ) (address ones : ℕ) where
+  -- one bucket more in front of a search
+  found-fits : (L probes : ℕ) (o : Option ℕ) (after : Place) → held t slots L (prefix L address) ≡ o → L ≤ 32 → probes ≤ 32
+      → Fits (place-answer t slots ones after) → Fits (place-answer t slots ones (found-or t L (prefix L address) probes o after))
+  unfolding place-answer route-answer held holds
+  found-fits L probes (some s) after h high few rest = record {
+    refusal = omega arith;
+    hop = omega (arith, hop-high _ (both _ _ (some-lowest (holds t slots L (prefix L address)) (t .s) s h .passes) .0));
+    length = omega arith;
+    probes = omega arith;
+  }
+  found-fits L probes none after h high few rest = rest
+
+  -- a search of the lengths from n down, with a probe to spare for each
+  search-fits : (test : ℕ → Bool) → ones ≤ 32 → (probes n : ℕ) → probes + n ≤ 32
+      → Fits (place-answer t slots ones (searched t slots address probes (those test (down-from n))))
+  unfolding place-answer searched those down-from
+  search-fits test few probes zero spare = default-fits (default-mark t slots) ones few
+  search-fits test few probes (suc n) spare =
+      go (test (suc n)) (search-fits test few probes n (omega arith))
+      (found-fits (suc n) (probes + 1) _ _ refl (omega arith) (omega arith) (search-fits test few (probes + 1) n (omega arith)))
+    where
+      go : (b : Bool) → Fits (place-answer t slots ones (searched t slots address probes (those test (down-from n))))
+          → Fits (place-answer t slots ones (searched t slots address probes (suc n ∷ those test (down-from n))))
+          → Fits (place-answer t slots ones (searched t slots address probes (cond b (suc n ∷ those test (down-from n)) (those test (down-from n)))))
+      go true past on = on
+      go false past on = past
+
+pub lookup-fits : (t : Settings) (m : Memory) (address : ℕ) → Fits (lookup t m address)
+unfolding lookup answer-of refused set-bits
+lookup-fits t m address =
+    go (eqb (memory-refusal t m 0) 0)
+    (search-fits t (m .slots) address _ (bit-set (vector-of t (m .counters) address)) (few-lengths _ 32) 0 32 (omega arith))
+  where
+    go : (b : Bool) → Fits (answer-of t m address) → Fits (cond b (answer-of t m address) (refused (memory-refusal t m 0)))
+    go true fits = fits
+    go false fits = record { refusal = memory-fits t m; hop = omega arith; length = omega arith; probes = omega arith }

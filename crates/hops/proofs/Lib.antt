@@ -1,0 +1,2 @@
+-- The law that every lookup's proof cites.
+pub mod Lookups
