@@ -1,10 +1,10 @@
--- Laws of decimal digits: how they end, and how many there can be.
+-- Laws of decimal digits: how they begin and end, and how many there can be.
 use Prim.Native.Nat.{ℕ, zero, suc, _+_, _/_, _%_, _^_, _≤_, _<_}
 use mathlib.Core.Path.{_≡_, refl, ap}
 use mathlib.Core.Bool.{Bool, true, false, cond}
-use mathlib.Core.List.{List, [], _∷_, _++_}
+use mathlib.Core.List.{List, [], _∷_, _++_, append-assoc}
 use native.Mathlib.Omega.{arith}
-use lib.ListN.{length, length-append}
+use lib.ListN.{length, getD, length-append}
 use lib.Dec.{ltb}
 use borrow.Author.Tests.{lt-ltb, le-ltb, ltb-true, ltb-false}
 use Rattle.answers.specs.Texts.{last-digits, decimal}
@@ -44,3 +44,23 @@ decimal-fits (suc k) n h = by-size (ltb n 10) refl (λ lt. decimal-fits k (n / 1
         let more = simp length-append at (ap length (decimal-more n (ltb-false n 10 e))) in
         let rest = f (omega arith) in
         omega arith
+
+-- whatever stands after them, the digits come first
+digit-first : (many n d : ℕ) (rest : List ℕ) → d < 10 → getD (last-digits many n ++ (48 + d) ∷ rest) 0 0 < 58
+unfolding last-digits
+digit-first zero n d rest h = omega arith
+digit-first (suc many) n d rest h = by-size (ltb n 10) refl (digit-first many (n / 10) (n % 10) ((48 + d) ∷ rest) (omega arith))
+  where
+    by-size : (b : Bool) → ltb n 10 ≡ b → getD (last-digits many (n / 10) ++ (48 + n % 10) ∷ (48 + d) ∷ rest) 0 0 < 58
+        → getD (cond b ((48 + n) ∷ []) (last-digits many (n / 10) ++ (48 + n % 10) ∷ []) ++ (48 + d) ∷ rest) 0 0 < 58
+    by-size true e f = omega (arith, ltb-true n 10 e)
+    by-size false e f = rw append-assoc f
+
+-- so a text that begins with a number begins with a digit
+pub decimal-first : (n : ℕ) (rest : List ℕ) → getD (decimal n ++ rest) 0 0 < 58
+unfolding decimal last-digits
+decimal-first n rest = by-size (ltb n 10) refl
+  where
+    by-size : (t : Bool) → ltb n 10 ≡ t → getD (cond t ((48 + n) ∷ []) (last-digits n (n / 10) ++ (48 + n % 10) ∷ []) ++ rest) 0 0 < 58
+    by-size true e = omega (arith, ltb-true n 10 e)
+    by-size false e = rw append-assoc (digit-first n (n / 10) (n % 10) rest (omega arith))

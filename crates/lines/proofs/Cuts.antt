@@ -12,7 +12,7 @@ use Rattle.lines.specs.Lines.{lines, answers, Stream, going, feed, writt
 use Rattle.lines.proofs.Owed.{Keeps, owed, owed-last, unfinished, keeps-chunk, owed-chunk}
 
 -- a stream begins with nothing kept
-begins : (m : Memory) (line : List ℕ) → 65 ≤ length line → Keeps [] (going m line 0)
+pub begins : (m : Memory) (line : List ℕ) → 65 ≤ length line → Keeps [] (going m line 0)
 begins m line room = record { room = room; kept-in = lit≤ tt; first = refl }
 
 -- chunk after chunk, all that is owed is written
@@ -35,9 +35,11 @@ pub any-cut : (t : Settings) (m : Memory) (line line′ : List ℕ) (chunks chun
 any-cut t m line line′ chunks chunks′ room room′ same =
     one-by-one t m line chunks room ∙ ap (λ (input : List ℕ). answers t m (lines input)) same ∙ sym (one-by-one t m line′ chunks′ room′)
 
--- A stream that began with nothing kept and 65 lent bytes is refused only for want of room for answers.
-pub only-for-answers : (t : Settings) (m : Memory) (line input : List ℕ) (ends : ℕ) (out : List ℕ) → 65 ≤ length line → ends * 33 ≤ length out → let s = feed t (going m line 0) input in roomy (s .line) (s .count) ends out ≡ true
+-- Where a stream keeps its line, a call with room for its answers is not refused.
+pub room-kept : {begun : List ℕ} {s : Stream} → Keeps begun s → (ends : ℕ) (out : List ℕ) → ends * 33 ≤ length out → roomy (s .line) (s .count) ends out ≡ true
 unfolding roomy
-only-for-answers t m line input ends out room enough =
-    let k = keeps-chunk t input (begins m line room) in
-    simp (le-leb _ _ (k .room), le-leb _ _ (k .kept-in), le-leb _ _ enough)
+room-kept k ends out enough = simp (le-leb _ _ (k .room), le-leb _ _ (k .kept-in), le-leb _ _ enough)
+
+-- So a stream that began with nothing kept and 65 lent bytes is refused only for want of room for answers.
+pub only-for-answers : (t : Settings) (m : Memory) (line input : List ℕ) (ends : ℕ) (out : List ℕ) → 65 ≤ length line → ends * 33 ≤ length out → let s = feed t (going m line 0) input in roomy (s .line) (s .count) ends out ≡ true
+only-for-answers t m line input ends out room enough = room-kept (keeps-chunk t input (begins m line room)) ends out enough

@@ -4,5 +4,5 @@ pub mod Owed
 pub mod Replies
 pub mod Rooms
 pub mod Sample
-pub mod Settled
+pub mod Determined
 pub mod Streams

@@ -4,15 +4,10 @@ use mathlib.Core.Bool.{true}
 use mathlib.Core.List.{[], _∷_}
 use lib.ListN.{replicate}
 use Rattle.spelling.specs.Spelling.{spelled, same}
-use Rattle.rules.specs.declared.Settings.{Settings}
-use Rattle.rules.proofs.Worked.{computing}
+use Rattle.rules.proofs.Worked.{T, computing}
 use Rattle.requests.specs.Shapes.{digit, front-digit, digits, value, begins-with-number, number, no-numbers, with-octet, with-length, with-hop, item, items, fit, request}
 use Rattle.answers.specs.Texts.{last-digits, decimal, refused as refused-text, outcome, hit, miss, found}
 use Rattle.lines.specs.Lines.{updated, reply, answer, going, keep, end-line, take-byte, feed, finish, written}
-
--- settings T
-abbrev T : Settings
-T = record { k = 2; d = 4; e = 1; s = 2; a = 1; b = 2; c = 1 }
 
 -- the sample is one chunk, and the table's memory is zero
 pub sample : same (written T (going (record { counters = replicate 512 0; slots = replicate 257 0 }) (replicate 65 0) 0) (spelled "add 10.0.0.0/8 7\nadd 10.1.0.0/16 9\nfind 10.2.2.3\nfind 11.0.0.1\ndrop 10.1.0.0/16\nfind 10.1.2.3\ndrop 10.1.0.0/16" ∷ [])) (spelled "ok\nok\n7 8 2\nnone 0\nok\n7 8 1\nrefused 7\n") ≡ true

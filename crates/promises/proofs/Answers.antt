@@ -17,7 +17,7 @@ use Rattle.rules.proofs.Members.{both}
 use Rattle.rules.proofs.Refusals.{passed}
 use Rattle.rules.proofs.Placing.{ranges, positions-length}
 use Rattle.promises.specs.History.{Route, Call, Clear, Add, Withdraw, Change, word-sized, act, written, noted, about, without, next-by}
-use Rattle.promises.specs.Demands.{Finds, SaysNone, number, beside, number-given, Stored, sum, exists, matches, crowded, overflows, add-number, withdraw-number, change-number, Longest, NoMatch, marks, covered, probes-down-to, in-use, lengths-in-use}
+use Rattle.promises.specs.Demands.{Finds, SaysNone, number, beside, number-given, Stored, sum, exists, matches, crowded, overflows, add-number, withdraw-number, change-number, Longest, NoMatch, marks, covered, probes-down-to, in-use, lengths-in-use, longest}
 use Rattle.promises.proofs.Sums.{exists-there, exists-one}
 use Rattle.promises.proofs.Paper.{route, worth, stored-route, paper-withdrawn}
 use Rattle.promises.proofs.Kept.{Kept}
@@ -25,7 +25,7 @@ use Rattle.promises.proofs.Refusals.{from-1-never, number-by-routes}
 use Rattle.promises.proofs.Updates.{checked}
 use Rattle.promises.proofs.Histories.{kept-next}
 use Rattle.promises.proofs.Anew.{Parted, vacancy, next-accepted}
-use Rattle.promises.proofs.Matches.{longest, answer-by, Right, right}
+use Rattle.promises.proofs.Matches.{answer-by, Right, right}
 use Rattle.promises.proofs.Lookups.{lookup-finds, lookup-none, lookup-by-routes, default-prefix}
 
 -- ---- Probes

@@ -1,20 +1,19 @@
 -- The promises of the calls' own answers: whatever a caller of crates/table is given back, by contracts that ensure one
 -- equation each, is what the demands say. A log of calls and numbers is a history, and its lists are that history's
 -- memory, so each theorem here is one of proofs/Promises.antt or proofs/Refused.antt.
-use Prim.Native.Nat.{ℕ, _+_, _*_, _^_, _≤_, _<_}
+use Prim.Native.Nat.{ℕ, _*_, _^_, _≤_, _<_}
 use mathlib.Core.Path.{_≡_, refl, sym, ap, ap₂, _∙_}
 use mathlib.Core.Bool.{true, false}
 use mathlib.Core.List.{List, [], _∷_}
 use mathlib.Core.Logic.{_↔_, _≢_}
-use native.Mathlib.Nat.{zero-add}
 use lib.Dec.{eqb}
 use Rattle.rules.specs.declared.Settings.{Settings}
 use Rattle.rules.specs.declared.Answer.{Answer}
 use Rattle.rules.specs.declared.Vector.{Vector}
 use Rattle.rules.specs.Tools.{all}
-use Rattle.rules.specs.Table.{Memory, lent, left, refused, bits-where, match-vector, lookup, words as words-of, one-if, answer-number, c-lookup}
-use Rattle.promises.specs.History.{Route, Call, Clear, Add, Withdraw, Change, word-sized, all-word-sized, act, ask, ask-vector, noted, State, next, after, history, next-by, after-by, history-by}
-use Rattle.promises.specs.Demands.{Stored, number, Reordered, matches, Longest, NoMatch, Finds, SaysNone, first-condition, number-given, covered, probes-down-to, lengths-in-use, adds, refusals, filter-sum}
+use Rattle.rules.specs.Table.{in-range, bucket, Memory, lent, left, sized, refused, bits-where, match-vector, lookup}
+use Rattle.promises.specs.History.{Route, Call, Clear, Add, Withdraw, Change, word-sized, all-word-sized, act, ask, ask-vector, about, noted, State, next, after, history, next-by, after-by, history-by}
+use Rattle.promises.specs.Demands.{Stored, number, Reordered, matches, Longest, NoMatch, Finds, SaysNone, memory-conditions, conditions, NoneMet, FirstMet, number-given, covered, probes-down-to, lengths-in-use, adds, refusals, filter-sum}
 use Rattle.promises.specs.Calls.{Ensured, Made, Ran, Stop, Step, calls-of, numbers-of, on-paper, Served}
 use Rattle.promises.proofs.Promises as promise
 use Rattle.promises.proofs.Refused as demand-1
@@ -31,9 +30,13 @@ acted t (Change p L hop) counters slots e = e
 -- ---- Any call, on any settings, lists and arguments
 
 module _ (t : Settings) (call : Call) (counters slots : List ℕ) (r : ℕ) (counters' slots' : List ℕ) (ensured : Ensured t call counters slots r counters' slots') where
-  -- The number given back is that of the first condition of the list that the call meets, 0 if it meets none.
-  pub numbers-in-order : r ≡ first-condition t call (lent counters slots)
-  numbers-in-order = sym (ap (λ u. u .refusal) (acted t call counters slots ensured)) ∙ demand-1.numbers-in-order t call (lent counters slots)
+  -- A number is given back exactly if its condition is met and none is of those before it in the list.
+  pub numbers-in-order : (n : ℕ) → 1 ≤ n → (r ≡ n) ↔ FirstMet n (conditions t call (lent counters slots))
+  numbers-in-order = rw (ap (λ u. u .refusal) (acted t call counters slots ensured)) at (demand-1.numbers-in-order t call (lent counters slots))
+
+  -- 0 is, exactly if no condition is met.
+  pub accepted-exactly : (r ≡ 0) ↔ NoneMet (conditions t call (lent counters slots))
+  accepted-exactly = rw (ap (λ u. u .refusal) (acted t call counters slots ensured)) at (demand-1.accepted-exactly t call (lent counters slots))
 
   -- A refused call leaves every lent byte and word as it was.
   pub refused-unchanged : r ≢ 0 → (counters' ≡ counters) × (slots' ≡ slots)
@@ -48,16 +51,42 @@ module _ (t : Settings) (call : Call) (counters slots : List ℕ) (r : ℕ) (cou
       let same = sym (acted t call counters slots other) ∙ acted t call counters slots ensured in
       (ap (λ u. u .refusal) same, ap (λ u. u .memory .counters) same, ap (λ u. u .memory .slots) same)
 
-module _ (t : Settings) (address : ℕ) (counters slots : List ℕ) where
-  -- A refused lookup has found false and every other number zero.
-  pub lookup-refused : (answer : Answer) → answer ≡ lookup t (lent counters slots) address → answer .refusal ≢ 0 → answer ≡ refused (answer .refusal)
-  unfolding ask
-  lookup-refused answer given = rw given (demand-1.lookup-refused t address (lent counters slots))
+-- A clear is accepted under settings in range, over lists of their sizes: a log can always begin.
+pub clear-accepted : (t : Settings) (counters slots : List ℕ) → in-range t ≡ true → sized t (lent counters slots) ≡ true
+    → (r : ℕ) (counters' slots' : List ℕ) → Ensured t Clear counters slots r counters' slots' → r ≡ 0
+clear-accepted t counters slots range sizes r counters' slots' ensured =
+    sym (ap (λ u. u .refusal) (acted t Clear counters slots ensured)) ∙ promise.clear-accepted t (lent counters slots) range sizes
 
-  -- A refused match vector is zero.
-  pub vector-refused : (answer : Vector) → answer ≡ match-vector t (lent counters slots) address → answer .refusal ≢ 0 → answer .vector ≡ 0
-  unfolding ask-vector
-  vector-refused answer given = rw given (demand-1.vector-refused t address (lent counters slots))
+module _ (t : Settings) (address : ℕ) (counters slots : List ℕ) where
+  module _ (answer : Answer) (given : answer ≡ lookup t (lent counters slots) address) where
+    -- A lookup is given 1 or 2, by the settings and the sizes alone, and no other number.
+    pub lookup-number : (n : ℕ) → 1 ≤ n → (answer .refusal ≡ n) ↔ FirstMet n (memory-conditions t (lent counters slots))
+    unfolding ask
+    lookup-number = rw given (demand-1.lookup-number t address (lent counters slots))
+
+    pub lookup-accepted-exactly : (answer .refusal ≡ 0) ↔ NoneMet (memory-conditions t (lent counters slots))
+    unfolding ask
+    lookup-accepted-exactly = rw given (demand-1.lookup-accepted-exactly t address (lent counters slots))
+
+    -- A refused lookup has found false and every other number zero.
+    pub lookup-refused : answer .refusal ≢ 0 → answer ≡ refused (answer .refusal)
+    unfolding ask
+    lookup-refused = rw given (demand-1.lookup-refused t address (lent counters slots))
+
+  module _ (answer : Vector) (given : answer ≡ match-vector t (lent counters slots) address) where
+    -- So it is with a match vector.
+    pub vector-number : (n : ℕ) → 1 ≤ n → (answer .refusal ≡ n) ↔ FirstMet n (memory-conditions t (lent counters slots))
+    unfolding ask-vector
+    vector-number = rw given (demand-1.vector-number t address (lent counters slots))
+
+    pub vector-accepted-exactly : (answer .refusal ≡ 0) ↔ NoneMet (memory-conditions t (lent counters slots))
+    unfolding ask-vector
+    vector-accepted-exactly = rw given (demand-1.vector-accepted-exactly t address (lent counters slots))
+
+    -- A refused match vector is zero.
+    pub vector-refused : answer .refusal ≢ 0 → answer .vector ≡ 0
+    unfolding ask-vector
+    vector-refused = rw given (demand-1.vector-refused t address (lent counters slots))
 
   -- Whatever else meets their contracts is the same answer.
   pub lookup-determined : (answer other : Answer) → answer ≡ lookup t (lent counters slots) address → other ≡ lookup t (lent counters slots) address → other ≡ answer
@@ -85,13 +114,13 @@ same-after Stop routes = refl
 same-after {t} (Step call r {counters = counters} {slots = slots} {log = log} ensured rest) routes =
     ap (λ s. after t s (calls-of log)) (same-next t call counters slots r routes ensured) ∙ same-after rest (noted call r routes)
 
-same-numbers : {t : Settings} {counters slots last-counters last-slots : List ℕ} {log : List Made} → Ran t counters slots log last-counters last-slots
+its-numbers : {t : Settings} {counters slots last-counters last-slots : List ℕ} {log : List Made} → Ran t counters slots log last-counters last-slots
     → (routes : List Route) → refusals t (state counters slots routes) (calls-of log) ≡ numbers-of log
 unfolding refusals calls-of numbers-of
-same-numbers Stop routes = refl
-same-numbers {t} (Step call r {counters = counters} {slots = slots} {log = log} ensured rest) routes =
+its-numbers Stop routes = refl
+its-numbers {t} (Step call r {counters = counters} {slots = slots} {log = log} ensured rest) routes =
     ap₂ _∷_ (ap (λ u. u .refusal) (acted t call counters slots ensured))
-    (ap (λ s. refusals t s (calls-of log)) (same-next t call counters slots r routes ensured) ∙ same-numbers rest (noted call r routes))
+    (ap (λ s. refusals t s (calls-of log)) (same-next t call counters slots r routes ensured) ∙ its-numbers rest (noted call r routes))
 
 module _ {t : Settings} {log : List Made} {counters slots : List ℕ} (served : Served t log counters slots) where
   -- the routes stored, by the calls and the numbers of the log
@@ -125,7 +154,7 @@ module _ {t : Settings} {log : List Made} {counters slots : List ℕ} (served : 
 
   numbers : refusals t (history t before []) calls ≡ numbers-of log
   unfolding history-by after-by
-  numbers = rw cleared (same-numbers (served .ran) [])
+  numbers = rw cleared (its-numbers (served .ran) [])
 
   -- ---- What lookup gives back
 
@@ -161,24 +190,12 @@ module _ {t : Settings} {log : List Made} {counters slots : List ℕ} (served : 
     unfolding ask
     probes-bounded = rw given (rw (same-memory, same-routes) at (promise.probes-bounded t before calls accepted words address word))
 
-  -- From C the answer crosses as one number, by the stored routes: slots are lent as bytes.
-  module _ (address : ℕ) (word : address < 2 ^ 32) (bytes : List ℕ) (lent-as : words-of bytes ≡ slots) where
-    pub c-finds : (r : Route) → Longest address routes r
-        → c-lookup t counters bytes address ≡ 2 ^ 40 + r .hop * 2 ^ 16 + r .length * 2 ^ 8 + probes-down-to t routes address (r .length)
-    unfolding c-lookup answer-number one-if
-    c-finds r best =
-        let answer = lookup t (lent counters slots) address in
-        let its = finds-longest address word answer refl r best in
-        rw (lent-as, probes-counted address word answer refl, its .refusal, its .found, its .hop, its .length)
-
-    pub c-none : NoMatch address routes → c-lookup t counters bytes address ≡ probes-down-to t routes address 0
-    unfolding c-lookup answer-number one-if
-    c-none no-match =
-        let answer = lookup t (lent counters slots) address in
-        let its = says-none address word answer refl no-match in
-        rw (lent-as, probes-counted address word answer refl, its .refusal, its .found, its .hop, its .length) (zero-add _)
-
   -- ---- What the match vector gives back
+
+  -- It is accepted.
+  pub vector-accepted : (address : ℕ) (answer : Vector) → answer ≡ match-vector t (lent counters slots) address → answer .refusal ≡ 0
+  unfolding ask-vector
+  vector-accepted address answer given = rw given (rw same-memory at (promise.vector-accepted t before calls accepted words address))
 
   -- Bit L − 1 is set exactly if stored routes of length L cover the address's positions.
   pub vector-covered : (address : ℕ) → address < 2 ^ 32 → (answer : Vector) → answer ≡ match-vector t (lent counters slots) address
@@ -208,9 +225,21 @@ module _ {t : Settings} {log : List Made} {counters slots : List ℕ} (served : 
       let promised = rw (same-memory, ap (λ u. u .memory) out) at (promise.freed-again t before calls accepted words p L hop word high) in
       sym (ap (λ u. u .refusal) (acted t (Add p L hop) counters' slots' again)) ∙ promised (ap (λ u. u .refusal) out)
 
-  -- ---- The counters
+  -- Nor does an add of any other prefix of that length and bucket then get 8.
+  pub freed-for-others : (p L q hop : ℕ) → p < 2 ^ 32 → q < 2 ^ 32 → bucket t q ≡ bucket t p → (counters' slots' : List ℕ) → Ensured t (Withdraw p L) counters slots 0 counters' slots'
+      → (r : ℕ) (counters″ slots″ : List ℕ) → Ensured t (Add q L hop) counters' slots' r counters″ slots″ → r ≢ 8
+  freed-for-others p L q hop word other-word same-bucket counters' slots' freed r counters″ slots″ added eight =
+      let out = acted t (Withdraw p L) counters slots freed in
+      let promised = rw (same-memory, ap (λ u. u .memory) out) at (promise.freed-for-others t before calls accepted words p L q hop word other-word same-bucket) in
+      promised (ap (λ u. u .refusal) out) (ap (λ u. u .refusal) (acted t (Add q L hop) counters' slots' added) ∙ eight)
 
-  -- The counters of a length sum to K times the number of its stored routes.
+  -- ---- What is stored, and the counters
+
+  -- No two stored routes have one prefix and length.
+  pub stored-once : (p L : ℕ) → number (about p L) routes ≤ 1
+  stored-once = rw same-routes at (promise.stored-once t before calls accepted words)
+
+  -- A length's counters together are K for each route stored with it.
   pub counters-sum : (L : ℕ) → 1 ≤ L → L ≤ 32 → filter-sum t counters L ≡ t .k * number (λ r. eqb (r .length) L) routes
   counters-sum = rw (ap (λ m. m .counters) same-memory, same-routes) at (promise.counters-sum t before calls accepted words)
 
@@ -222,16 +251,16 @@ module _ {t : Settings} {log again : List Made} {counters slots new-counters new
   reordered : Reordered (history t (before served) (calls served) .routes) order
   reordered = rw (same-routes served) same
 
-  -- It accepts the stored routes, each added once, in any order.
+  -- Whatever order the stored routes are added in, no add is refused.
   pub all-accepted : all (λ n. eqb n 0) (numbers-of again) ≡ true
   all-accepted = rw (← numbers anew, added)
       (promise.all-accepted t (before served) (calls served) (accepted served) (words served) (before anew) (accepted anew) order reordered)
 
   -- Then it gives the same answers and counts.
-  pub same-answers : (address : ℕ) → address < 2 ^ 32 → (answer new-answer : Answer)
+  pub same-lookups : (address : ℕ) → address < 2 ^ 32 → (answer new-answer : Answer)
       → answer ≡ lookup t (lent counters slots) address → new-answer ≡ lookup t (lent new-counters new-slots) address → new-answer ≡ answer
   unfolding ask
-  same-answers address word answer new-answer given new-given =
+  same-lookups address word answer new-answer given new-given =
       rw (given, new-given, ← same-memory served, ← same-memory anew, added)
       (promise.same-lookups t (before served) (calls served) (accepted served) (words served) (before anew) (accepted anew) order reordered address word)
 
@@ -242,3 +271,29 @@ module _ {t : Settings} {log again : List Made} {counters slots new-counters new
   same-vectors address word vector new-vector given new-given =
       rw (given, new-given, ← same-memory served, ← same-memory anew, added)
       (promise.same-vectors t (before served) (calls served) (accepted served) (words served) (before anew) (accepted anew) order reordered address word)
+
+  -- So it stays, whatever calls are then made to both.
+  module _ {more new-more : List Made} {last-counters last-slots new-last-counters new-last-slots : List ℕ}
+      (ran : Ran t counters slots more last-counters last-slots) (new-ran : Ran t new-counters new-slots new-more new-last-counters new-last-slots)
+      (same-calls : calls-of new-more ≡ calls-of more) (more-words : all-word-sized (calls-of more) ≡ true) where
+    -- Each call is given the same number by both.
+    pub same-numbers : numbers-of new-more ≡ numbers-of more
+    same-numbers =
+        rw (← its-numbers ran (on-paper [] log), ← its-numbers new-ran (on-paper [] again), same-calls, ← same-history served, ← same-history anew, added)
+        (promise.same-numbers t (before served) (calls served) (accepted served) (words served) (before anew) (accepted anew) order reordered (calls-of more) more-words)
+
+    -- After them each lookup has the same answer and count.
+    pub same-lookups-after : (address : ℕ) → address < 2 ^ 32 → (answer new-answer : Answer)
+        → answer ≡ lookup t (lent last-counters last-slots) address → new-answer ≡ lookup t (lent new-last-counters new-last-slots) address → new-answer ≡ answer
+    unfolding ask
+    same-lookups-after address word answer new-answer given new-given =
+        rw (given, new-given, ← ap (λ s. s .memory) (same-after ran (on-paper [] log)), ← ap (λ s. s .memory) (same-after new-ran (on-paper [] again)), same-calls, ← same-history served, ← same-history anew, added)
+        (promise.same-lookups-after t (before served) (calls served) (accepted served) (words served) (before anew) (accepted anew) order reordered (calls-of more) more-words address word)
+
+    -- And each match vector is the same.
+    pub same-vectors-after : (address : ℕ) → address < 2 ^ 32 → (vector new-vector : Vector)
+        → vector ≡ match-vector t (lent last-counters last-slots) address → new-vector ≡ match-vector t (lent new-last-counters new-last-slots) address → new-vector ≡ vector
+    unfolding ask-vector
+    same-vectors-after address word vector new-vector given new-given =
+        rw (given, new-given, ← ap (λ s. s .memory) (same-after ran (on-paper [] log)), ← ap (λ s. s .memory) (same-after new-ran (on-paper [] again)), same-calls, ← same-history served, ← same-history anew, added)
+        (promise.same-vectors-after t (before served) (calls served) (accepted served) (words served) (before anew) (accepted anew) order reordered (calls-of more) more-words address word)

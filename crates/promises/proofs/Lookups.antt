@@ -15,19 +15,20 @@ use Rattle.rules.specs.declared.Settings.{Settings}
 use Rattle.rules.specs.declared.Place.the-variants.{At, Absent}
 use Rattle.rules.specs.declared.Answer.{Answer}
 use Rattle.rules.specs.Tools.{those}
-use Rattle.rules.specs.Table.{prefix, positions, Memory, slot-number, occupied, mark-of, hop-of, mark-at, default-mark, held, claims, bits-where, vector-of, match-vector, down-from, search, route-answer, default-answer, place-answer, answer-of, lookup}
+use Rattle.rules.specs.Table.{prefix, positions, Memory, slot-number, occupied, hop-of, mark-at, default-mark, held, claims, bits-where, vector-of, match-vector, down-from, search, route-answer, default-answer, place-answer, answer-of, lookup}
 use Rattle.rules.specs.Ready.{Ready}
 use Rattle.rules.proofs.Members.{all-made, any-made}
+use Rattle.rules.proofs.Marks.{hop-marked}
 use Rattle.rules.proofs.Prefixes.{prefix-zero}
 use Rattle.rules.proofs.Vectors.{those-agree, set-bits-where}
 use Rattle.promises.specs.History.{Route, about}
-use Rattle.promises.specs.Demands.{exists, matches, Longest, NoMatch, marks, covered, probes-down-to}
+use Rattle.promises.specs.Demands.{exists, matches, Longest, NoMatch, marks, covered, probes-down-to, longest}
 use Rattle.promises.proofs.Sums.{by-cases, exists-there, only-one}
 use Rattle.promises.proofs.Buckets.{held-stored, stored-held, default-stored, default-free}
 use Rattle.promises.proofs.Counters.{claims-covered}
 use Rattle.promises.proofs.Kept.{Kept, fits, ready}
 use Rattle.promises.proofs.Refusals.{no-memory-refusal}
-use Rattle.promises.proofs.Matches.{longest, answer-by, vector-by, Right, right}
+use Rattle.promises.proofs.Matches.{answer-by, vector-by, Right, right}
 
 -- ---- Going down the lengths
 
@@ -88,10 +89,6 @@ module _ (t : Settings) (slots : List ℕ) (address : ℕ) (claimed : ℕ → Bo
           rw (own, le-leb L (suc n) hi, none-after, rw e at holds) (rw e)
 
 -- ---- The answer
-
-hop-marked : (hop : ℕ) → hop-of (mark-of hop) ≡ hop
-unfolding hop-of mark-of
-hop-marked hop = omega arith
 
 module _ {t : Settings} {routes : List Route} {m : Memory} (kept : Kept t routes m) (address : ℕ) (word : address < 2 ^ 32) where
   abbrev of-length : (L : ℕ) → 1 ≤ L → L ≤ 32 → Ready t L

@@ -14,19 +14,7 @@ use Rattle.rules.specs.declared.Answer.{Answer}
 use Rattle.rules.specs.declared.Vector.{Vector}
 use Rattle.rules.specs.Table.{bits-where}
 use Rattle.promises.specs.History.{Route}
-use Rattle.promises.specs.Demands.{matches, Longest, NoMatch, covered, probes-down-to}
-
--- of a route and what is best among others, the longer
-unfoldable pub longer : Route → Option Route → Option Route
-longer r none = some r
-longer r (some q) = cond (ltb (q .length) (r .length)) (some r) (some q)
-
--- the longest route that matches, if one does
-unfoldable pub longest : (address : ℕ) → List Route → Option Route
-longest address [] = none
-longest address (r ∷ routes) =
-    let others = longest address routes in
-    cond (matches address r) (longer r others) others
+use Rattle.promises.specs.Demands.{matches, Longest, longer, longest, NoMatch, covered, probes-down-to}
 
 -- a lookup's answer, by the longest route that matches: its hop and length, or none, after the probes down to there
 unfoldable pub answer-by : Settings → List Route → (address : ℕ) → Option Route → Answer

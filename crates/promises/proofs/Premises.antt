@@ -6,21 +6,28 @@ use mathlib.Core.List.{List, [], _∷_}
 use mathlib.Core.Logic.{_≢_}
 use native.Mathlib.Omega.{arith}
 use lib.Dec.{eqb, lit<, lit≤}
-use lib.ListN.{replicate}
+use mir.Syntax.{w32}
+use mir.Val.{Val, vint}
+use contract.Lifetimes.{Lfts}
+use denote.Laws.{Is}
+use denote.Ref.{RefT}
+use denote.Struct.Declared.{row}
+use denote.Struct.Laws.{val}
 use Rattle.rules.specs.declared.Settings.{Settings}
-use Rattle.rules.specs.Tools.{within, all}
-use Rattle.rules.specs.Table.{in-range, bucket, Memory, lent, counters-size, slots-size, held, stored, refuse, sized, memory-refusal, update, added, withdrawn, clear}
-use Rattle.rules.proofs.Worked.{ip, T, same, computing as rules-computing}
-use Rattle.promises.specs.History.{Route, Call, Clear, Add, Withdraw, Change, word-sized, all-word-sized, act, ask, about, without, with-hop, written, noted, history, next-by, after-by, history-by}
-use Rattle.promises.specs.Demands.{Finds, Swapped, matches, Longest, adds, refusals}
-use Rattle.promises.specs.Calls.{Ensured, Made, Ran, Stop, Step, calls-of, Served}
+use Rattle.rules.specs.Tools.{all}
+use Rattle.rules.specs.Table.{Memory, lent, clear, add, lookup}
+use Rattle.rules.proofs.Settings.{the-type}
+use Rattle.rules.proofs.Settings.Laws.{the-laws}
+use Rattle.rules.proofs.Worked.{ip, T, same}
+use Rattle.promises.specs.History.{Route, Call, Clear, Add, Withdraw, Change, word-sized, all-word-sized, act, ask, history}
+use Rattle.promises.specs.Demands.{Finds, Swapped, matches, Longest, adds, refusals, longest, longer}
+use Rattle.promises.specs.Calls.{Ensured, Made, Ran, Stop, Step, calls-of, on-paper, Served}
+use Rattle.promises.proofs.Agree.{sevens, computing}
 use Rattle.promises.proofs.Paper.{route}
-use Rattle.promises.proofs.Matches.{longest, longer, right}
+use Rattle.promises.proofs.Matches.{right}
 use Rattle.promises.proofs.Promises.{finds-longest, finds-default, none-exactly, freed-again, freed-for-others, all-accepted}
-
--- lent memory that held sevens
-abbrev pub sevens : Memory
-sevens = record { counters = replicate 512 7; slots = replicate 257 7 }
+use Rattle.promises.proofs.Contracts.{Called, ClearCalled, AddCalled, Looked, LookupCalled, Ended, Next, Serving}
+use Rattle.promises.proofs.Callers as caller
 
 -- a day of calls, with the number that each is given
 day : List Call
@@ -44,17 +51,12 @@ day =
 morning : List Call
 morning = Add (ip 10 0 0 0) 8 7 ∷ Add (ip 10 1 0 0) 16 9 ∷ []
 
--- to unfold this is to unfold all that a history computes with
-unfoldable pub computing : ℕ
-unfolding rules-computing act about without with-hop written noted next-by after-by history-by
-computing = 0
-
 day-given : same (refusals T (history T sevens []) day) (0 ∷ 0 ∷ 0 ∷ 6 ∷ 4 ∷ 3 ∷ 5 ∷ 7 ∷ 0 ∷ 0 ∷ 8 ∷ 0 ∷ 0 ∷ []) ≡ true
 unfolding day same refusals computing
 day-given = refl
 
 cleared : act T Clear sevens .refusal ≡ 0
-unfolding act clear update memory-refusal refuse in-range within sized counters-size slots-size
+unfolding computing
 cleared = refl
 
 day-sized : all-word-sized day ≡ true
@@ -152,3 +154,59 @@ day-served = record {
   ran = day-run .ran;
   words = rw (day-run .its-calls) day-sized;
 }
+
+-- ---- Calls as they were made
+
+-- settings T as a struct of seven numbers of 32 bits
+abbrev word : ℕ → List Val
+word n = vint w32 n ∷ []
+
+settings-good : Is (row the-type) T (val the-type the-laws T ∷ [])
+settings-good = (
+  (word 2, (word 4, (word 1, (word 2, (word 1, (word 2, (word 1, tt))))))),
+  (refl, ((refl, lit< tt), ((refl, lit< tt), ((refl, lit< tt), ((refl, lit< tt), ((refl, lit< tt), ((refl, lit< tt), ((refl, lit< tt), tt)))))))),
+)
+
+-- a list as it is lent
+abbrev lending : List ℕ → RefT (List ℕ)
+lending xs = record { ptr = (0, 0); name = 0; now = xs }
+
+abbrev lifetimes : Lfts 2
+lifetimes = ([], ([], tt))
+
+-- the memory cleared, and with 10/8 added
+abbrev empty : Memory
+empty = clear T sevens .memory
+
+abbrev one : Memory
+one = add T empty (ip 10 0 0 0) 8 7 .memory
+
+clear-called : Called T Clear (sevens .counters) (sevens .slots) 0 (empty .counters) (empty .slots)
+unfolding computing
+clear-called = ClearCalled lifetimes (T, (lending (sevens .counters), (lending (sevens .slots), tt))) 0 (T, (lending (empty .counters), (lending (empty .slots), tt)))
+    (settings-good, ((lit< tt, lit< tt), ((lit< tt, lit< tt), tt))) refl
+
+add-called : Called T (Add (ip 10 0 0 0) 8 7) (empty .counters) (empty .slots) 0 (one .counters) (one .slots)
+unfolding computing
+add-called = AddCalled lifetimes (T, (lending (empty .counters), (lending (empty .slots), (ip 10 0 0 0, (8, (7, tt)))))) 0 (T, (lending (one .counters), (lending (one .slots), (ip 10 0 0 0, (8, (7, tt))))))
+    (settings-good, ((lit< tt, lit< tt), ((lit< tt, lit< tt), ((refl, lit< tt), ((refl, lit< tt), ((refl, lit< tt), tt)))))) refl
+
+-- a table was cleared and served one add, and 10.2.2.3 is looked up
+one-served : Serving T (record { call = Add (ip 10 0 0 0) 8 7; given = 0 } ∷ []) (one .counters) (one .slots)
+one-served = record {
+  counters-before = sevens .counters;
+  slots-before = sevens .slots;
+  counters-cleared = empty .counters;
+  slots-cleared = empty .slots;
+  cleared = clear-called;
+  calling = Next (Add (ip 10 0 0 0) 8 7) 0 add-called Ended;
+}
+
+looked : Looked T (one .counters) (one .slots) (ip 10 2 2 3) (lookup T one (ip 10 2 2 3))
+unfolding computing
+looked = LookupCalled lifetimes (T, (lending (one .counters), (lending (one .slots), (ip 10 2 2 3, tt)))) (lookup T one (ip 10 2 2 3)) (T, (lending (one .counters), (lending (one .slots), (ip 10 2 2 3, tt))))
+    (settings-good, ((lit< tt, lit< tt), ((lit< tt, lit< tt), ((refl, lit< tt), tt)))) refl
+
+looked-met : Finds (lookup T one (ip 10 2 2 3)) (route (ip 10 0 0 0) 8 7)
+unfolding longest longer matches on-paper computing
+looked-met = caller.finds-longest one-served looked (route (ip 10 0 0 0) 8 7) (right (ip 10 2 2 3) (on-paper [] (record { call = Add (ip 10 0 0 0) 8 7; given = 0 } ∷ [])))

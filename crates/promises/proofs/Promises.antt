@@ -1,9 +1,9 @@
 -- Demands 2 and 3, sentence by sentence, each as a theorem over every history: an accepted clear, over memory that
 -- held anything, and then any calls, with any arguments, refused calls included. Prefixes and addresses are numbers
--- of 32 bits, as every caller's are. What is stored is read off the calls and their answers alone
--- (specs/History.antt), and the words of the demands are in specs/Demands.antt. One fact carries all of them: every
--- history keeps memory and stored routes together (proofs/Kept.antt). Demand 1 is in proofs/Refused.antt, and
--- proofs/Calls.antt says the same of the numbers that a caller of crates/table sees.
+-- of 32 bits, which the types of the calls give (proofs/Callers.antt). What is stored is read off the calls and their
+-- answers alone (specs/History.antt), and the words of the demands are in specs/Demands.antt. One fact carries all of
+-- them: every history keeps memory and stored routes together (proofs/Kept.antt). Demand 1 is in proofs/Refused.antt,
+-- and proofs/Calls.antt says the same of the numbers that a caller of crates/table sees.
 use Prim.Native.Nat.{ℕ, _*_, _^_, _≤_, _<_}
 use mathlib.Core.Path.{_≡_, sym, ap, _∙_}
 use mathlib.Core.Bool.{true, false}
@@ -13,13 +13,14 @@ use native.Mathlib.Nat.{zero-add}
 use lib.Dec.{eqb}
 use Rattle.rules.specs.declared.Settings.{Settings}
 use Rattle.rules.specs.Tools.{all}
-use Rattle.rules.specs.Table.{in-range, bucket, Memory, sized, refuse, memory-refusal, update, clear, bits-where}
+use Rattle.rules.specs.Table.{in-range, bucket, Memory, sized, refuse, update, clear, match-vector, bits-where}
+use Rattle.rules.proofs.Refusals.{memory-order}
 use Rattle.promises.specs.History.{Route, Call, Clear, Add, Withdraw, word-sized, all-word-sized, act, ask, ask-vector, after, history, about, after-by, history-by}
 use Rattle.promises.specs.Demands.{Stored, sum, number, Reordered, matches, Longest, NoMatch, Finds, SaysNone, number-given, covered, probes-down-to, lengths-in-use, adds, refusals, filter-sum}
 use Rattle.promises.proofs.Sums.{sum-reordered}
 use Rattle.promises.proofs.Counters.{filter-sum-kept}
 use Rattle.promises.proofs.Kept.{Kept, ready}
-use Rattle.promises.proofs.Refusals.{number-by-routes}
+use Rattle.promises.proofs.Refusals.{no-memory-refusal, number-by-routes}
 use Rattle.promises.proofs.Histories.{kept-history, kept-clear, kept-after}
 use Rattle.promises.proofs.Matches.{vector-by}
 use Rattle.promises.proofs.Lookups.{lookup-by-routes, vector-by-routes}
@@ -28,8 +29,8 @@ use Rattle.promises.proofs.Answers.{finds, default-longest, says, finds
 
 -- A history can always begin: under settings in range, over lists of their sizes, a clear is accepted.
 pub clear-accepted : (t : Settings) (before : Memory) → in-range t ≡ true → sized t before ≡ true → act t Clear before .refusal ≡ 0
-unfolding act clear update memory-refusal refuse
-clear-accepted t before range sizes = rw (range, sizes)
+unfolding act clear update refuse
+clear-accepted t before range sizes = memory-order t before 0 ∙ rw (range, sizes)
 
 module _ (t : Settings) (before : Memory) (calls : List Call) (cleared : act t Clear before .refusal ≡ 0) (words : all-word-sized calls ≡ true) where
   -- the lent memory after the history, and the routes then stored
@@ -44,7 +45,7 @@ module _ (t : Settings) (before : Memory) (calls : List Call) (cleared : act t C
 
   -- ---- Demand 2
 
-  -- A lookup gives the next hop and length of the longest stored route that matches.
+  -- Of the stored routes that match an address, a lookup answers with hop and length of the longest.
   pub finds-longest : (address : ℕ) → address < 2 ^ 32 → (r : Route) → Longest address routes r → Finds (ask t address m) r
   unfolding ask
   finds-longest address word r longest =
@@ -68,8 +69,8 @@ module _ (t : Settings) (before : Memory) (calls : List Call) (cleared : act t C
       let its = says kept address word no-match in
       record { refusal = its .refusal; found = its .found; hop = its .hop; length = its .length }
 
-  -- Each update is accepted unless one of the listed conditions holds of the stored routes: of those that hold the
-  -- first in the list gives its number. A clear is always accepted.
+  -- A call gets the number of the first condition, in the order of the list, that is so of the stored routes, and 0
+  -- where none is; a clear always gets 0.
   pub numbers-given : (call : Call) → word-sized call ≡ true → act t call m .refusal ≡ number-given t routes call
   numbers-given = number-by-routes kept
 
@@ -89,14 +90,14 @@ module _ (t : Settings) (before : Memory) (calls : List Call) (cleared : act t C
 
   -- ---- Demand 3
 
-  -- The probe count is the number of lengths, from 32 down to the answer's own (down to 1 for the default or none),
-  -- at which each filter position of the address is a position of some stored route of that length.
+  -- Probes count the lengths from 32 down to the one that answered, or down to 1 where the default or nothing did, that
+  -- are covered: whatever position the address has in the filter of such a length, a stored route of it has too.
   pub probes-counted : (address : ℕ) → address < 2 ^ 32
       → ask t address m .probes ≡ probes-down-to t routes address (ask t address m .length)
   unfolding ask
   probes-counted = probes kept
 
-  -- It never exceeds the number of nonzero lengths in use.
+  -- They are at most as many as the lengths, 0 left out, that stored routes have.
   pub probes-bounded : (address : ℕ) → address < 2 ^ 32 → ask t address m .probes ≤ lengths-in-use routes
   unfolding ask
   probes-bounded = probes-few kept
@@ -147,18 +148,30 @@ module _ (t : Settings) (before : Memory) (calls : List Call) (cleared : act t C
           lookup-by-routes (kept-same (from-then .same) (kept-after (again .kept) more more-words)) address word
           ∙ sym (lookup-by-routes (kept-after kept more more-words) address word)
 
+      -- And each match vector is the same.
+      pub same-vectors-after : (address : ℕ) → address < 2 ^ 32
+          → ask-vector t address (after t (history t new (adds order)) more .memory) ≡ ask-vector t address (after t (history t before calls) more .memory)
+      unfolding ask-vector history-by after-by
+      same-vectors-after address word =
+          vector-by-routes (kept-same (from-then .same) (kept-after (again .kept) more more-words)) address word
+          ∙ sym (vector-by-routes (kept-after kept more more-words) address word)
+
   -- ---- What the rules say of a history
 
   -- No two stored routes have one prefix and length, so that each is added once.
   pub stored-once : (p L : ℕ) → number (about p L) routes ≤ 1
   stored-once = kept .once
 
-  -- The match vector has bit L − 1 set exactly if each filter position of the address at length L is a position of some
-  -- stored route of that length.
+  -- A match vector is accepted.
+  pub vector-accepted : (address : ℕ) → ask-vector t address m .refusal ≡ 0
+  unfolding ask-vector match-vector
+  vector-accepted address = no-memory-refusal kept 0
+
+  -- Bit L − 1 of the match vector is set exactly if length L is so covered.
   pub vector-covered : (address : ℕ) → address < 2 ^ 32 → ask-vector t address m .vector ≡ bits-where (covered t routes address) 32
   unfolding ask-vector vector-by
   vector-covered address word = ap (λ v. v .vector) (vector-by-routes kept address word)
 
-  -- The counters of a length sum to K times the number of its stored routes.
+  -- A length's counters together are K for each route stored with it.
   pub counters-sum : (L : ℕ) → 1 ≤ L → L ≤ 32 → filter-sum t (m .counters) L ≡ t .k * number (λ r. eqb (r .length) L) routes
   counters-sum L low high = filter-sum-kept t routes (m .counters) (kept .counters) L (ready (kept .range) low high)

@@ -8,8 +8,8 @@ use lib.ListN.{length}
 use lib.Dec.{ltb}
 use borrow.Author.Tests.{ltb-true, eq-eqb, ne-eqb, ltb-false}
 use Rattle.rules.specs.declared.Settings.{Settings}
-use Rattle.rules.specs.Table.{update, clear, add, withdraw, change, prefix, Memory, sized, default-mark, occupied, stored, loose, refuse, from-1, memory-refusal, route-refusal, add-refusal, withdraw-refusal, change-refusal}
-use Rattle.rules.proofs.Refusals.{fits as no-refusal}
+use Rattle.rules.specs.Table.{update, clear, add, withdraw, change, prefix, Memory, sized, default-mark, occupied, stored, loose, refuse, from-1, memory-refusal, add-refusal, withdraw-refusal, change-refusal}
+use Rattle.rules.proofs.Refusals.{fits as no-refusal, add-order, withdraw-order, change-order}
 use Rattle.rules.proofs.Prefixes.{prefix-zero, loose-false}
 use Rattle.promises.specs.History.{Call, Clear, Add, Withdraw, Change, Route, word-sized, act, about}
 use Rattle.promises.specs.Demands.{number-given, exists, add-number, withdraw-number, change-number}
@@ -56,15 +56,15 @@ module _ {t : Settings} {routes : List Route} {m : Memory} (kept : Kept t routes
 
   -- what comes after 3 and 4 may count on what they check
   after-4 : (L p after other : ℕ) → (L ≤ 32 → prefix L p ≡ p → after ≡ other)
-      → route-refusal t m L p after ≡ refuse (ltb 32 L) 3 (refuse (loose L p) 4 other)
-  unfolding route-refusal refuse
+      → memory-refusal t m (refuse (ltb 32 L) 3 (refuse (loose L p) 4 after)) ≡ refuse (ltb 32 L) 3 (refuse (loose L p) 4 other)
+  unfolding refuse
   after-4 L p after other h = no-memory-refusal _ ∙ by-cases (ltb 32 L)
       (λ high. rw high)
       (λ low. rw low (by-cases (loose L p) (λ bad. rw bad) (λ good. rw good (h (ltb-false 32 L low) (loose-false L p .0 good)))))
 
   pub add-by-routes : (p L hop : ℕ) → p < 2 ^ 32 → add-refusal t m p L hop ≡ add-number t routes p L hop
-  unfolding add-refusal add-number
-  add-by-routes p L hop word = after-4 L p _ _ (λ high tight.
+  unfolding add-number
+  add-by-routes p L hop word = add-order t m p L hop ∙ after-4 L p _ _ (λ high tight.
       rw (
         stored-exists L p high tight word,
         from-1-same L _ _ (λ low. full-crowded (kept .slots) L p (ready (kept .range) low high)),
@@ -72,16 +72,16 @@ module _ {t : Settings} {routes : List Route} {m : Memory} (kept : Kept t routes
       ))
 
   pub withdraw-by-routes : (p L : ℕ) → p < 2 ^ 32 → withdraw-refusal t m p L ≡ withdraw-number routes p L
-  unfolding withdraw-refusal withdraw-number refuse
-  withdraw-by-routes p L word = after-4 L p _ _ (λ high tight. rw (stored-exists L p high tight word) (by-cases (exists (about p L) routes)
+  unfolding withdraw-number refuse
+  withdraw-by-routes p L word = withdraw-order t m p L ∙ after-4 L p _ _ (λ high tight. rw (stored-exists L p high tight word) (by-cases (exists (about p L) routes)
       (λ there. rw there
       (let r = exists-one (about p L) routes there in
       rw (from-1-never L _ (λ low. never-short t routes (m .counters) (kept .counters) L (ready (kept .range) low high) p (r .1) (r .2)))))
       (λ gone. rw gone)))
 
   pub change-by-routes : (p L hop : ℕ) → p < 2 ^ 32 → change-refusal t m p L hop ≡ change-number routes p L hop
-  unfolding change-refusal change-number
-  change-by-routes p L hop word = after-4 L p _ _ (λ high tight. rw (stored-exists L p high tight word))
+  unfolding change-number
+  change-by-routes p L hop word = change-order t m p L hop ∙ after-4 L p _ _ (λ high tight. rw (stored-exists L p high tight word))
 
   -- so each call's number is fixed by the stored routes
   pub number-by-routes : (call : Call) → word-sized call ≡ true → act t call m .refusal ≡ number-given t routes call

@@ -1,5 +1,6 @@
 -- The promises shut out each sham by what they say, not by how they are proved: a program that keeps them is never one
--- of these. One computed history of small table T, and one call or lookup after it, shows each up.
+-- of these. One computed history of a small table, and one call or lookup after it, shows each up: of table T, except
+-- where a counter has to get to 15.
 use Prim.Native.Nat.{ℕ, _+_, _-_, _^_, _<_}
 use mathlib.Core.Path.{_≡_, refl, sym, ap, _∙_}
 use mathlib.Core.Bool.{Bool, true, false, cond, not, _&&_, true≢false}
@@ -7,19 +8,18 @@ use mathlib.Core.List.{List, [], _∷_, _++_}
 use mathlib.Core.Option.{Option, some, none}
 use native.Mathlib.Nat.{suc-ne-zero}
 use lib.Dec.{eqb, ltb}
-use lib.ListN.{set}
+use lib.ListN.{length, take, set}
 use borrow.Author.Tests.{eqb-true, eq-eqb, ltb-true}
 use Rattle.rules.specs.declared.Settings.{Settings}
-use Rattle.rules.specs.declared.Answer.{Answer}
 use Rattle.rules.specs.Tools.{any, those}
-use Rattle.rules.specs.Table.{Memory, Update, lent, left, default-word, default-mark, mark-of, slot-number, counter-places, with-slot, update, step-each, clear, add, withdraw, change, claims, bits-where, vector-of, down-from, bit-set, set-bits, search as searched, route-answer, default-answer, place-answer, refused, answer-of, lookup, one-if}
+use Rattle.rules.specs.Table.{Memory, Update, lent, left, default-word, default-mark, mark-of, slot-number, counter-places, with-slot, update, step-each, added, clear, add, withdraw, change, hits, vector-of, down-from, set-bits, search as searched, default-answer, place-answer, one-if}
 use Rattle.rules.proofs.Members.{both}
-use Rattle.promises.specs.History.{Route, Call, Clear, Add, Withdraw, Change, word-sized, all-word-sized, act, ask, Acting, history-by}
-use Rattle.promises.specs.Demands.{number-given, add-number, withdraw-number, change-number, exists, sum, number, crowded, beside, landings, overflows, matches, marks, covered, probes-down-to}
+use Rattle.promises.specs.History.{Route, Call, Clear, Add, Withdraw, Change, word-sized, all-word-sized, act, ask, Acting}
+use Rattle.promises.specs.Demands.{probes-down-to, longest}
 use Rattle.promises.specs.Programs.{Asking, Promised, Honest}
-use Rattle.promises.proofs.Matches.{longest, longer, answer-by, Right, right}
+use Rattle.promises.proofs.Matches.{answer-by, Right, right}
 use Rattle.rules.proofs.Worked.{ip, T}
-use Rattle.promises.proofs.Premises.{sevens, computing}
+use Rattle.promises.proofs.Agree.{sevens, Z, right-number, same, right-answer, add-8, add-16, pair, four-then-one, showing}
 use Rattle.promises.proofs.Promises as promise
 
 -- The calls of the rules are not among them: they keep the promises.
@@ -36,39 +36,23 @@ honest = record {
 
 -- ---- How one is shown up
 
--- it accepts a clear, and the calls have prefixes of 32 bits
-begun : Acting → List Call → Bool
-begun acting calls = eqb (acting T Clear sevens .refusal) 0 && all-word-sized calls
+module _ (t : Settings) where
+  -- it accepts a clear, and the calls have prefixes of 32 bits
+  begun : Acting → List Call → Bool
+  begun acting calls = eqb (acting t Clear sevens .refusal) 0 && all-word-sized calls
 
--- after the calls, one more is given another number than is due
-wrong-number : Acting → List Call → Call → Bool
-wrong-number acting calls call =
-    let s = history-by acting T sevens calls in
-    begun acting calls && (word-sized call && not (eqb (acting T call (s .memory) .refusal) (number-given T (s .routes) call)))
+  -- after the calls, one more is given another number than is due
+  wrong-number : Acting → List Call → Call → Bool
+  wrong-number acting calls call = begun acting calls && (word-sized call && not (right-number t acting calls call))
 
-by-number : (acting : Acting) (asking : Asking) (calls : List Call) (call : Call) → wrong-number acting calls call ≡ true → Honest acting asking → ⊥
-unfolding wrong-number begun
-by-number acting asking calls call wrong honest =
-    let one = both (begun acting calls) _ wrong in
-    let start = both (eqb (acting T Clear sevens .refusal) 0) _ (one .0) in
-    let two = both (word-sized call) _ (one .1) in
-    let due = honest .after T sevens calls (eqb-true _ 0 (start .0)) (start .1) .numbers-given call (two .0) in
-    true≢false (sym (two .1) ∙ ap not (eq-eqb _ _ due))
-
--- two answers are the same
-same : Answer → Answer → Bool
-same one other =
-    eqb (one .refusal) (other .refusal)
-    && (cond (one .found) (other .found) (not (other .found))
-    && (eqb (one .hop) (other .hop) && (eqb (one .length) (other .length) && eqb (one .probes) (other .probes))))
-
--- after the calls, a lookup answers otherwise than is due
-wrong-answer : Acting → Asking → List Call → (address : ℕ) → Bool
-wrong-answer acting asking calls address =
-    let s = history-by acting T sevens calls in
-    begun acting calls
-    && (ltb address (2 ^ 32)
-    && not (same (asking T address (s .memory)) (answer-by T (s .routes) address (longest address (s .routes)))))
+  by-number : (acting : Acting) (asking : Asking) (calls : List Call) (call : Call) → wrong-number acting calls call ≡ true → Honest acting asking → ⊥
+  unfolding wrong-number begun right-number
+  by-number acting asking calls call wrong honest =
+      let one = both (begun acting calls) _ wrong in
+      let start = both (eqb (acting t Clear sevens .refusal) 0) _ (one .0) in
+      let two = both (word-sized call) _ (one .1) in
+      let due = honest .after t sevens calls (eqb-true _ 0 (start .0)) (start .1) .numbers-given call (two .0) in
+      true≢false (sym (two .1) ∙ ap not (eq-eqb _ _ due))
 
 -- what is promised is what is due
 due-answer : {acting : Acting} {asking : Asking} {t : Settings} {m : Memory} {routes : List Route} → Promised acting asking t m routes
@@ -87,14 +71,19 @@ due-answer {acting} {asking} {t} {m} {routes} promised address word = go (longes
         rw (promised .probes-counted address word, its .refusal, its .found, its .hop, its .length, eq-eqb (r .hop) (r .hop) refl, eq-eqb (r .length) (r .length) refl)
         (eq-eqb probes probes refl)
 
-by-answer : (acting : Acting) (asking : Asking) (calls : List Call) (address : ℕ) → wrong-answer acting asking calls address ≡ true → Honest acting asking → ⊥
-unfolding wrong-answer begun
-by-answer acting asking calls address wrong honest =
-    let one = both (begun acting calls) _ wrong in
-    let start = both (eqb (acting T Clear sevens .refusal) 0) _ (one .0) in
-    let two = both (ltb address (2 ^ 32)) _ (one .1) in
-    let due = due-answer (honest .after T sevens calls (eqb-true _ 0 (start .0)) (start .1)) address (ltb-true address (2 ^ 32) (two .0)) in
-    true≢false (sym (two .1) ∙ ap not due)
+module _ (t : Settings) where
+  -- after the calls, a lookup answers otherwise than is due
+  wrong-answer : Acting → Asking → List Call → (address : ℕ) → Bool
+  wrong-answer acting asking calls address = begun t acting calls && (ltb address (2 ^ 32) && not (right-answer t acting asking calls address))
+
+  by-answer : (acting : Acting) (asking : Asking) (calls : List Call) (address : ℕ) → wrong-answer acting asking calls address ≡ true → Honest acting asking → ⊥
+  unfolding wrong-answer begun right-answer
+  by-answer acting asking calls address wrong honest =
+      let one = both (begun t acting calls) _ wrong in
+      let start = both (eqb (acting t Clear sevens .refusal) 0) _ (one .0) in
+      let two = both (ltb address (2 ^ 32)) _ (one .1) in
+      let due = due-answer (honest .after t sevens calls (eqb-true _ 0 (start .0)) (start .1)) address (ltb-true address (2 ^ 32) (two .0)) in
+      true≢false (sym (two .1) ∙ ap not due)
 
 -- ---- Programs that differ from the rules in one call
 
@@ -138,121 +127,132 @@ with-counters u counters = left (u .refusal) counters (u .memory .slots)
 abbrev pub with-slots : Update → List ℕ → Update
 with-slots u slots = left (u .refusal) (u .memory .counters) slots
 
--- 10/8 with hop 7, and 10.1/16 with hop 9
-add-8 : Call
-add-8 = Add (ip 10 0 0 0) 8 7
-
-add-16 : Call
-add-16 = Add (ip 10 1 0 0) 16 9
-
--- to unfold this is to unfold all that is due and all that a lookup computes with
-showing : ℕ
-unfolding wrong-number wrong-answer begun same add-8 add-16 word-sized all-word-sized number-given add-number withdraw-number change-number exists sum number crowded beside landings overflows matches marks covered probes-down-to longest longer answer-by ask lookup answer-of refused place-answer route-answer default-answer searched set-bits bit-set vector-of bits-where claims down-from those one-if computing
-showing = 0
+-- to unfold this is to unfold all that one is shown up by
+shown : ℕ
+unfolding wrong-number wrong-answer begun showing
+shown = 0
 
 -- ---- The shams of the rules
 
 -- Refuses every add: 10/8 is told that its bucket is full.
 pub refuses-every-add : Honest (with-add (λ t m p L hop. left 8 (m .counters) (m .slots))) ask → ⊥
-unfolding showing
-refuses-every-add = by-number _ ask [] add-8 refl
+unfolding shown
+refuses-every-add = by-number T _ ask [] add-8 refl
 
 -- Answers every lookup with none, after the probes that are due: 10/8 is stored and 10.2.2.3 is not found.
 pub answers-none :
     Honest act (λ t address m. let a = ask t address m in record { refusal = a .refusal; found = false; hop = 0; length = 0; probes = a .probes }) → ⊥
-unfolding showing
-answers-none = by-answer act _ (add-8 ∷ []) (ip 10 2 2 3) refl
+unfolding shown
+answers-none = by-answer T act _ (add-8 ∷ []) (ip 10 2 2 3) refl
 
 -- Answers always with the default.
 pub answers-default : Honest act (λ t address m. default-answer (default-mark t (m .slots)) (ask t address m .probes)) → ⊥
-unfolding showing
-answers-default = by-answer act _ (add-8 ∷ []) (ip 10 2 2 3) refl
+unfolding shown
+answers-default = by-answer T act _ (add-8 ∷ []) (ip 10 2 2 3) refl
 
 -- An add that writes nothing: a second one of the same prefix is accepted too.
 pub add-writes-nothing : Honest (with-add (λ t m p L hop. says-ok (add t m p L hop) m)) ask → ⊥
-unfolding showing
-add-writes-nothing = by-number _ ask (add-8 ∷ []) add-8 refl
+unfolding shown
+add-writes-nothing = by-number T _ ask (add-8 ∷ []) add-8 refl
 
 -- A withdrawal that writes nothing: a second one of the same prefix is accepted too.
 pub withdraw-writes-nothing : Honest (with-withdraw (λ t m p L. says-ok (withdraw t m p L) m)) ask → ⊥
-unfolding showing
-withdraw-writes-nothing = by-number _ ask (add-8 ∷ Withdraw (ip 10 0 0 0) 8 ∷ []) (Withdraw (ip 10 0 0 0) 8) refl
+unfolding shown
+withdraw-writes-nothing = by-number T _ ask (add-8 ∷ Withdraw (ip 10 0 0 0) 8 ∷ []) (Withdraw (ip 10 0 0 0) 8) refl
 
 -- A change that writes nothing: the old hop is found.
 pub change-writes-nothing : Honest (with-change (λ t m p L hop. says-ok (change t m p L hop) m)) ask → ⊥
-unfolding showing
-change-writes-nothing = by-answer _ ask (add-8 ∷ Change (ip 10 0 0 0) 8 1 ∷ []) (ip 10 2 2 3) refl
+unfolding shown
+change-writes-nothing = by-answer T _ ask (add-8 ∷ Change (ip 10 0 0 0) 8 1 ∷ []) (ip 10 2 2 3) refl
 
 -- The first add works and later ones, where some counter is set already, only say ok.
 pub only-first-add-works :
     Honest (with-add (λ t m p L hop. let u = add t m p L hop in says-ok u (cond (any (ltb 0) (m .counters)) m (u .memory)))) ask → ⊥
-unfolding showing
-only-first-add-works = by-number _ ask (add-8 ∷ add-16 ∷ []) add-16 refl
+unfolding shown
+only-first-add-works = by-number T _ ask (add-8 ∷ add-16 ∷ []) add-16 refl
 
 -- Reports 1 probe regardless.
 pub one-probe : Honest act (with-probes (λ t address m. 1)) → ⊥
-unfolding showing
-one-probe = by-answer act _ [] 0 refl
+unfolding shown
+one-probe = by-answer T act _ [] 0 refl
 
 -- Reports 32 probes regardless.
 pub thirty-two-probes : Honest act (with-probes (λ t address m. 32)) → ⊥
-unfolding showing
-thirty-two-probes = by-answer act _ [] 0 refl
+unfolding shown
+thirty-two-probes = by-answer T act _ [] 0 refl
 
 -- ---- Other wrong programs
-
--- 10/8 and 8/8 share a bucket of two and both their positions
-pair : List Call
-pair = add-8 ∷ Add (ip 8 0 0 0) 8 5 ∷ []
 
 -- A withdrawal that writes zero to its counters: it takes the marks that 10/8 shares, and 10/8 is not found.
 pub withdraw-takes-shared-marks :
     Honest (with-withdraw (λ t m p L.
     let u = withdraw t m p L in
     update (u .refusal) (lent (step-each (λ n. 0) (m .counters) (counter-places t L p)) (u .memory .slots)) m)) ask → ⊥
-unfolding showing pair
-withdraw-takes-shared-marks = by-answer _ ask (pair ++ Withdraw (ip 8 0 0 0) 8 ∷ []) (ip 10 2 2 3) refl
+unfolding shown
+withdraw-takes-shared-marks = by-answer T _ ask (pair ++ Withdraw (ip 8 0 0 0) 8 ∷ []) (ip 10 2 2 3) refl
 
 -- A withdrawal that empties its whole bucket: 10/8 is no longer stored.
 pub withdraw-takes-two :
     Honest (with-withdraw (λ t m p L.
     with-slots (withdraw t m p L) (with-slot (with-slot (m .slots) (slot-number t L p 0) 0 0) (slot-number t L p 1) 0 0))) ask → ⊥
-unfolding showing pair
-withdraw-takes-two = by-number _ ask (pair ++ Withdraw (ip 8 0 0 0) 8 ∷ []) (Withdraw (ip 10 0 0 0) 8) refl
+unfolding shown
+withdraw-takes-two = by-number T _ ask (pair ++ Withdraw (ip 8 0 0 0) 8 ∷ []) (Withdraw (ip 10 0 0 0) 8) refl
 
 -- An add that always writes slot 0 of its bucket: 10/8 is no longer stored once 8/8 is.
 pub add-evicts :
     Honest (with-add (λ t m p L hop. with-slots (add t m p L hop) (with-slot (m .slots) (slot-number t L p 0) p (mark-of hop)))) ask → ⊥
-unfolding showing pair
-add-evicts = by-number _ ask pair (Withdraw (ip 10 0 0 0) 8) refl
+unfolding shown
+add-evicts = by-number T _ ask pair (Withdraw (ip 10 0 0 0) 8) refl
 
--- An add that has raised its counters when it is refused: 64/8, of the full bucket, is then claimed.
-pub refused-add-raises :
-    Honest (with-add (λ t m p L hop. with-counters (add t m p L hop) (step-each (λ n. n + 1) (m .counters) (counter-places t L p)))) ask → ⊥
-unfolding showing pair
-refused-add-raises = by-answer _ ask (pair ++ Add (ip 64 0 0 0) 8 1 ∷ []) (ip 64 0 0 1) refl
+-- An add that has raised its first counter when it asks for 8 and 9: 0/8 is refused in the full bucket, and when the two
+-- others are withdrawn position 0 is still counted, so that 0.0.0.1 takes a probe for nothing.
+pub first-counter-raised :
+    Honest (with-add (λ t m p L hop.
+    let u = add t m p L hop in
+    cond (ltb 7 (u .refusal)) (with-counters u (step-each (λ n. n + 1) (m .counters) (take 1 (counter-places t L p)))) u)) ask → ⊥
+unfolding shown
+first-counter-raised = by-answer T _ ask (pair ++ Add 0 8 1 ∷ Withdraw (ip 10 0 0 0) 8 ∷ Withdraw (ip 8 0 0 0) 8 ∷ []) 1 refl
+
+-- An add that raises a doubled position once: the withdrawal, which counts it twice, gets 10.
+pub doubled-raised-once :
+    Honest (with-add (λ t m p L hop.
+    let u = add t m p L hop in
+    let once = those (λ i. ltb 0 (hits t L p i)) (down-from (length (m .counters))) in
+    cond (eqb (u .refusal) 0) (with-counters u (step-each (λ n. n + 1) (m .counters) once)) u)) ask → ⊥
+unfolding shown
+doubled-raised-once = by-number T _ ask (Add 0 8 1 ∷ []) (Withdraw 0 8) refl
+
+-- An add that never gives 9 and lets a counter stick at 15: three of four routes are withdrawn, five at a time, and
+-- the fourth, which is stored, is not found.
+pub counter-sticks :
+    Honest (with-add (λ t m p L hop.
+    let u = add t m p L hop in
+    let stuck = step-each (λ n. cond (ltb n 15) (n + 1) 15) (m .counters) (counter-places t L p) in
+    cond (eqb (u .refusal) 9) (left 0 stuck (added t m p L hop .slots)) u)) ask → ⊥
+unfolding shown
+counter-sticks = by-answer Z _ ask four-then-one 4 refl
 
 -- A change that gives the default the new hop too.
 pub change-moves-default :
     Honest (with-change (λ t m p L hop. let u = change t m p L hop in with-slots u (set (u .memory .slots) (default-word t) (mark-of hop)))) ask → ⊥
-unfolding showing
-change-moves-default = by-answer _ ask (add-8 ∷ Add 0 0 3 ∷ Change (ip 10 0 0 0) 8 1 ∷ []) (ip 12 0 0 1) refl
+unfolding shown
+change-moves-default = by-answer T _ ask (add-8 ∷ Add 0 0 3 ∷ Change (ip 10 0 0 0) 8 1 ∷ []) (ip 12 0 0 1) refl
 
 -- A clear that leaves the default's mark as it was: a default is still stored.
 pub clear-leaves-default :
     Honest (with-clear (λ t m. let u = clear t m in with-slots u (set (u .memory .slots) (default-word t) (default-mark t (m .slots))))) ask → ⊥
-unfolding showing
-clear-leaves-default = by-number _ ask [] (Add 0 0 3) refl
+unfolding shown
+clear-leaves-default = by-number T _ ask [] (Add 0 0 3) refl
 
 -- A clear that is always refused, so that no history begins.
 pub refuses-every-clear : Honest (with-clear (λ t m. left 2 (m .counters) (m .slots))) ask → ⊥
-unfolding showing
+unfolding shown
 refuses-every-clear honest = suc-ne-zero 1 (honest .begins T sevens refl refl)
 
 -- A lookup that answers for another address.
 pub answers-another : Honest act (λ t address m. ask t (ip 10 1 2 3) m) → ⊥
-unfolding showing
-answers-another = by-answer act _ (add-8 ∷ []) (ip 12 0 0 1) refl
+unfolding shown
+answers-another = by-answer T act _ (add-8 ∷ []) (ip 12 0 0 1) refl
 
 -- A lookup that stops at the highest claimed length, though its bucket has no such prefix: 10.2.2.3 is claimed at 16.
 abbrev pub first : List ℕ → List ℕ
@@ -261,18 +261,18 @@ first (L ∷ Ls) = L ∷ []
 
 pub stops-at-highest :
     Honest act (λ t address m. place-answer t (m .slots) 1 (searched t (m .slots) address 0 (first (set-bits (vector-of t (m .counters) address))))) → ⊥
-unfolding showing
-stops-at-highest = by-answer act _ (add-8 ∷ add-16 ∷ []) (ip 10 2 2 3) refl
+unfolding shown
+stops-at-highest = by-answer T act _ (add-8 ∷ add-16 ∷ []) (ip 10 2 2 3) refl
 
 -- A lookup that does not count the probe that finds the route.
 pub probes-above-only : Honest act (with-probes (λ t address m. ask t address m .probes - one-if (ask t address m .found))) → ⊥
-unfolding showing
-probes-above-only = by-answer act _ (add-8 ∷ []) (ip 10 2 2 3) refl
+unfolding shown
+probes-above-only = by-answer T act _ (add-8 ∷ []) (ip 10 2 2 3) refl
 
 -- A none that carries a length.
 pub none-with-length :
     Honest act (λ t address m.
     let a = ask t address m in
     record { refusal = a .refusal; found = a .found; hop = a .hop; length = cond (a .found) (a .length) 32; probes = a .probes }) → ⊥
-unfolding showing
-none-with-length = by-answer act _ [] 0 refl
+unfolding shown
+none-with-length = by-answer T act _ [] 0 refl

@@ -10,10 +10,10 @@ use lib.Seq.{getD-set-same, getD-set-other}
 use lib.Dec.{eqb}
 use borrow.Author.Tests.{eqb-true, eq-eqb}
 use Rattle.rules.specs.declared.Settings.{Settings}
-use Rattle.rules.specs.Table.{bucket, slots-size, slot-number, prefix-word, mark-word, default-word, occupied, mark-at, prefix-at, with-slot}
+use Rattle.rules.specs.Table.{bucket, slots-size, slot-number, prefix-word, mark-word, occupied, mark-at, prefix-at, with-slot}
 use Rattle.rules.specs.Ready.{Ready}
 use Rattle.rules.proofs.Members.{both}
-use Rattle.rules.proofs.Placing.{slot-apart, words-fit}
+use Rattle.rules.proofs.Placing.{slot-apart, words-fit, default-fits}
 use Rattle.promises.specs.Demands.{below}
 use Rattle.promises.proofs.Below.{below-agree, below-but-one}
 use Rattle.promises.proofs.Sums.{by-cases}
@@ -91,8 +91,8 @@ module _ (t : Settings) (slots : List ℕ) (L p u q mark : ℕ) (ready : Ready t
   written = with-slot slots number q mark
 
   fits : mark-word number < length slots
-  unfolding number default-word
-  fits = let k = words-fit t L p u ready within .mark in rw size (omega arith)
+  unfolding number
+  fits = let k = words-fit t L p u ready within .mark in rw size (omega (arith, default-fits t))
 
   slot-now : (weight : ℕ → ℕ → ℕ) → slot-weight weight written number ≡ weigh weight q mark
   unfolding slot-weight written

@@ -4,16 +4,19 @@ use mathlib.Core.Path.{_≡_, refl, sym, ap, _∙_}
 use mathlib.Core.Bool.{Bool, true, false, cond, not, false≢true}
 use mathlib.Core.List.{List, _∷_, List·Memᴰ, Memᴰ·cast}
 use mathlib.Core.Option.{Option, some, none}
+use native.Mathlib.Nat.{suc-ne-zero}
 use native.Mathlib.Omega.{arith}
 use lib.Dec.{eqb, ltb}
 use borrow.Author.Tests.{eqb-true, eq-eqb, ne-eqb, ltb-false, lt-ltb, le-leb, not-true, not-false}
 use Rattle.rules.specs.declared.Settings.{Settings}
-use Rattle.rules.specs.Tools.{within, count}
-use Rattle.rules.specs.Table.{prefix, positions, Memory, lent, slot-number, mark-of, default-mark, occupied, stored, held, vacant, free, is-some, full, loose, refuse, from-1, with-found, with-default, added, withdrawn, changed}
+use Rattle.rules.specs.Tools.{count}
+use Rattle.rules.specs.Table.{prefix, positions, Memory, lent, slot-number, mark-of, default-mark, occupied, stored, held, vacant, free, is-some, full, loose, refuse, from-1, added, withdrawn, changed}
 use Rattle.rules.specs.Ready.{Ready}
 use Rattle.rules.proofs.Members.{any-false}
 use Rattle.rules.proofs.Lowest.{some-lowest}
+use Rattle.rules.proofs.Marks.{mark-occupied, zero-free}
 use Rattle.rules.proofs.Refusals.{passed}
+use Rattle.rules.proofs.Updates.{added-default, added-slot, withdrawn-default, withdrawn-slot, changed-default, changed-slot}
 use Rattle.rules.proofs.Prefixes.{prefix-zero, loose-false}
 use Rattle.promises.specs.History.{Route, about, without, with-hop}
 use Rattle.promises.specs.Demands.{number, exists, landings, crowded, overflows, add-number}
@@ -94,17 +97,11 @@ unfolding worth fit
 new-fits p L hop valid high word =
     rw (le-leb L 32 (valid .high), eq-eqb (prefix L p) p (valid .tight), le-leb hop 65535 high, lt-ltb p (2 ^ 32) word)
 
--- the mark of a valid hop is occupied
-mark-occupied : (hop : ℕ) → hop ≤ 65535 → occupied (mark-of hop) ≡ true
-unfolding occupied mark-of within
-mark-occupied hop high = rw (le-leb 1 (hop + 1) (omega arith), le-leb (hop + 1) 65536 (omega arith))
-
 weigh-hop : (weight : ℕ → ℕ → ℕ) (q hop : ℕ) → hop ≤ 65535 → weigh weight q (mark-of hop) ≡ weight q (mark-of hop)
 weigh-hop weight q hop high = weigh-occupied weight q (mark-of hop) (mark-occupied hop high)
 
 pub weigh-zero : (weight : ℕ → ℕ → ℕ) (q : ℕ) → weigh weight q 0 ≡ 0
-unfolding occupied within
-weigh-zero weight q = weigh-free weight q 0 refl
+weigh-zero weight q = weigh-free weight q 0 zero-free
 
 found : (o : Option ℕ) → is-some o ≡ true → (s : ℕ) × (o ≡ some s)
 unfolding is-some
@@ -143,19 +140,19 @@ module _ {t : Settings} {routes : List Route} {m : Memory} (kept : Kept t routes
   default-stands tight = stored-exists kept 0 p (omega arith) tight word
 
   pub added-keeps : (L hop : ℕ) → Addable t routes p L hop → Kept t (route p L hop ∷ routes) (added t m p L hop)
-  unfolding added with-default with-found worth in-default full vacant free slot-weight
-  added-keeps zero hop ok = settled p 0 (m .counters) _ none (some hop) kept (paper-added p 0 hop routes)
+  unfolding worth in-default full vacant free slot-weight
+  added-keeps zero hop ok = rw (added-default t m p 0 hop refl) (settled p 0 (m .counters) _ none (some hop) kept (paper-added p 0 hop routes)
       (default-step (kept .slots) p (mark-of hop) none (some hop)
       (λ weight. weigh-free weight 0 _ (default-stands (ok .valid .tight) ∙ ok .absent))
       (λ weight. weigh-hop weight 0 hop (ok .hop-high)) (paper-added p 0 hop routes))
       (kept-unmoved p 0 (kept .counters) none (some hop) (paper-added p 0 hop routes) (λ M j of-m. sym (default-lands t p M j (some hop) of-m)))
       (new-fits p 0 hop (ok .valid) (ok .hop-high) word)
-      (room-added 0 hop ok) (once-added 0 hop (ok .absent))
+      (room-added 0 hop ok) (once-added 0 hop (ok .absent)))
   added-keeps (suc L) hop ok =
       let of-l : Ready t (suc L) = ready (kept .range) (omega arith) (ok .valid .high) in
       let u = found (vacant t (m .slots) (suc L) p) (not-false _ (full-crowded (kept .slots) (suc L) p of-l ∙ ok .vacancy (of-l .low))) in
       let low = some-lowest (free t (m .slots) (suc L) p) (t .s) (u .0) (u .1) in
-      rw (ne-eqb (suc L) 0 (omega arith), u .1)
+      rw (added-slot t m p (suc L) hop (suc-ne-zero L) (u .0) (u .1))
       (settled p (suc L) _ _ none (some hop) kept (paper-added p (suc L) hop routes)
       (slot-step (kept .slots) (suc L) p (u .0) p (mark-of hop) none (some hop) of-l (low .within)
       (λ weight. weigh-free weight _ _ (not-true _ (low .passes)))
@@ -217,17 +214,18 @@ module _ {t : Settings} {routes : List Route} {m : Memory} (kept : Kept t routes
       (λ M j of-m. omega (arith, kept .small M j of-m)) (λ q M. omega (arith, kept .once q M))
 
   pub withdrawn-keeps : (L : ℕ) → Checked p L → exists (about p L) routes ≡ true → Kept t (without p L routes) (withdrawn t m p L)
-  unfolding withdrawn with-default with-found worth in-default
+  unfolding worth in-default
   withdrawn-keeps zero valid there =
       let at = in-word (valid .tight) there in
-      less 0 (at .hop) _ _ (at .member)
+      rw (withdrawn-default t m p 0 refl)
+      (less 0 (at .hop) _ _ (at .member)
       (default-step (kept .slots) p 0 (some (at .hop)) none (at .weighs) (λ weight. weigh-zero weight 0) (paper-withdrawn p 0 (at .hop) (at .member) (kept .once p 0)))
-      (kept-unmoved p 0 (kept .counters) (some (at .hop)) none (paper-withdrawn p 0 (at .hop) (at .member) (kept .once p 0)) (λ M j of-m. default-lands t p M j (some (at .hop)) of-m))
+      (kept-unmoved p 0 (kept .counters) (some (at .hop)) none (paper-withdrawn p 0 (at .hop) (at .member) (kept .once p 0)) (λ M j of-m. default-lands t p M j (some (at .hop)) of-m)))
   withdrawn-keeps (suc L) valid there =
       let of-l : Ready t (suc L) = ready (kept .range) (omega arith) (valid .high) in
       let s = in-slot (suc L) of-l there in
       let at = s .2 in
-      rw (ne-eqb (suc L) 0 (omega arith), s .1)
+      rw (withdrawn-slot t m p (suc L) (suc-ne-zero L) (s .0) (s .1))
       (less (suc L) (at .hop) _ _ (at .member)
       (slot-step (kept .slots) (suc L) p (s .0) 0 0 (some (at .hop)) none of-l (at .within) (at .weighs) (λ weight. weigh-zero weight 0)
       (paper-withdrawn p (suc L) (at .hop) (at .member) (kept .once p (suc L))))
@@ -244,16 +242,17 @@ module _ {t : Settings} {routes : List Route} {m : Memory} (kept : Kept t routes
       (λ M j of-m. omega (arith, kept .small M j of-m)) (λ q M. omega (arith, kept .once q M))
 
   pub changed-keeps : (L hop : ℕ) → Checked p L → hop ≤ 65535 → exists (about p L) routes ≡ true → Kept t (with-hop p L hop routes) (changed t m p L hop)
-  unfolding changed with-default with-found worth in-default
+  unfolding worth in-default
   changed-keeps zero hop valid high there =
       let at = in-word (valid .tight) there in
-      other-hop 0 (at .hop) hop _ (at .member) valid high
-      (default-step (kept .slots) p (mark-of hop) (some (at .hop)) (some hop) (at .weighs) (λ weight. weigh-hop weight 0 hop high) (paper-changed p 0 (at .hop) hop (at .member) (kept .once p 0)))
+      rw (changed-default t m p 0 hop refl)
+      (other-hop 0 (at .hop) hop _ (at .member) valid high
+      (default-step (kept .slots) p (mark-of hop) (some (at .hop)) (some hop) (at .weighs) (λ weight. weigh-hop weight 0 hop high) (paper-changed p 0 (at .hop) hop (at .member) (kept .once p 0))))
   changed-keeps (suc L) hop valid high there =
       let of-l : Ready t (suc L) = ready (kept .range) (omega arith) (valid .high) in
       let s = in-slot (suc L) of-l there in
       let at = s .2 in
-      rw (ne-eqb (suc L) 0 (omega arith), s .1)
+      rw (changed-slot t m p (suc L) hop (suc-ne-zero L) (s .0) (s .1))
       (other-hop (suc L) (at .hop) hop _ (at .member) valid high
       (slot-step (kept .slots) (suc L) p (s .0) p (mark-of hop) (some (at .hop)) (some hop) of-l (at .within) (at .weighs) (λ weight. weigh-hop weight p hop high)
       (paper-changed p (suc L) (at .hop) hop (at .member) (kept .once p (suc L)))))

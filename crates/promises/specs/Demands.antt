@@ -1,24 +1,104 @@
 -- The words of the demands, as definitions over the stored routes.
-use Prim.Native.Nat.{ℕ, zero, suc, _+_, _^_, _≤_}
+use Prim.Native.Nat.{ℕ, zero, suc, _+_, _-_, _%_, _^_, _≤_}
 use mathlib.Core.Path.{_≡_}
 use mathlib.Core.Bool.{Bool, true, false, cond, not, _&&_, _||_}
-use mathlib.Core.List.{List, [], _∷_, map, List·Memᴰ}
+use mathlib.Core.List.{List, [], _∷_, _++_, map, List·Memᴰ}
+use mathlib.Core.Option.{Option, some, none}
 use lib.ListN.{length, getD}
 use lib.Dec.{ltb, leb, eqb}
 use Rattle.rules.specs.Tools.{all, any, count, those}
 use Rattle.rules.specs.declared.Settings.{Settings}
 use Rattle.rules.specs.declared.Answer.{Answer}
-use Rattle.rules.specs.Table.{prefix, positions, bucket, filter-bits, Memory, counter-place, refuse, loose, from-1, memory-refusal, add-refusal, withdraw-refusal, change-refusal, down-from}
+use Rattle.rules.specs.Table.{prefix, positions, bucket, filter-bits, Memory, counters-size, counter-place, counter-places, slots-size, slot-number, occupied, mark-at, prefix-at, default-mark, refuse, loose, from-1, hits, down-from}
 use Rattle.promises.specs.History.{Route, Call, Clear, Add, Withdraw, Change, State, about, act, next}
 
 -- ---- Numbers given back, by the lent memory
 
--- the number of the first condition of the list that the call meets, 0 if it meets none
-unfoldable pub first-condition : Settings → Call → Memory → ℕ
-first-condition t Clear m = memory-refusal t m 0
-first-condition t (Add p L hop) m = add-refusal t m p L hop
-first-condition t (Withdraw p L) m = withdraw-refusal t m p L
-first-condition t (Change p L hop) m = change-refusal t m p L hop
+-- a number that a call can give back, and whether what it stands for is so
+pub record Condition : Type 0 where
+  pub number : ℕ
+  pub met : Bool
+
+infix 5 _when_
+abbrev pub _when_ : (number : ℕ) (met : Bool) → Condition
+number when met = record { number = number; met = met }
+
+-- below the low limit or above the high one
+unfoldable pub outside : (low high n : ℕ) → Bool
+outside low high n = ltb n low || ltb high n
+
+-- the test holds at some number below n
+unfoldable pub some-below : (ℕ → Bool) → (n : ℕ) → Bool
+some-below test zero = false
+some-below test (suc n) = some-below test n || test n
+
+-- it holds at every number below n
+unfoldable pub every-below : (ℕ → Bool) → (n : ℕ) → Bool
+every-below test zero = true
+every-below test (suc n) = every-below test n && test n
+
+-- p is stored: at length 0 the default's mark is occupied, at any other some slot of p's bucket is, with p in it
+unfoldable pub there : Settings → (slots : List ℕ) (L p : ℕ) → Bool
+there t slots L p =
+    cond (eqb L 0) (occupied (default-mark t slots))
+    (some-below (λ s. occupied (mark-at slots (slot-number t L p s)) && eqb (prefix-at slots (slot-number t L p s)) p) (t .s))
+
+-- every slot of p's bucket is occupied
+unfoldable pub no-slot-left : Settings → (slots : List ℕ) (L p : ℕ) → Bool
+no-slot-left t slots L p = every-below (λ s. occupied (mark-at slots (slot-number t L p s))) (t .s)
+
+-- what every call looks at: K, D, E and S, and the sizes of the two lists
+unfoldable pub memory-conditions : Settings → Memory → List Condition
+memory-conditions t m =
+    (1 when outside 1 8 (t .k) || (outside 4 11 (t .d) || (outside 0 8 (t .e) || outside 1 8 (t .s))))
+    ∷ (2 when not (eqb (length (m .counters)) (counters-size t)) || not (eqb (length (m .slots)) (slots-size t)))
+    ∷ []
+
+-- what every update looks at next: the length, and the bits after it
+unfoldable pub route-conditions : (L p : ℕ) → List Condition
+route-conditions L p = (3 when ltb 32 L) ∷ (4 when ltb 0 (p % 2 ^ (32 - L))) ∷ []
+
+-- each call's conditions, in the order in which they are looked at
+unfoldable pub conditions : Settings → Call → Memory → List Condition
+conditions t Clear m = memory-conditions t m
+conditions t (Add p L hop) m =
+    memory-conditions t m
+    ++ route-conditions L p
+    ++ (5 when ltb 65535 hop)
+    ∷ (6 when there t (m .slots) L p)
+    ∷ (8 when ltb 0 L && no-slot-left t (m .slots) L p)
+    ∷ (9 when ltb 0 L && any (λ i. ltb 15 (getD (m .counters) i 0 + hits t L p i)) (counter-places t L p))
+    ∷ []
+conditions t (Withdraw p L) m =
+    memory-conditions t m
+    ++ route-conditions L p
+    ++ (7 when not (there t (m .slots) L p))
+    ∷ (10 when ltb 0 L && any (λ i. ltb (getD (m .counters) i 0) (hits t L p i)) (counter-places t L p))
+    ∷ []
+conditions t (Change p L hop) m =
+    memory-conditions t m
+    ++ route-conditions L p
+    ++ (5 when ltb 65535 hop)
+    ∷ (7 when not (there t (m .slots) L p))
+    ∷ []
+
+-- the numbers that each call can give back, in that order
+unfoldable pub numbers-by : Call → List ℕ
+numbers-by Clear = 1 ∷ 2 ∷ []
+numbers-by (Add p L hop) = 1 ∷ 2 ∷ 3 ∷ 4 ∷ 5 ∷ 6 ∷ 8 ∷ 9 ∷ []
+numbers-by (Withdraw p L) = 1 ∷ 2 ∷ 3 ∷ 4 ∷ 7 ∷ 10 ∷ []
+numbers-by (Change p L hop) = 1 ∷ 2 ∷ 3 ∷ 4 ∷ 5 ∷ 7 ∷ []
+
+-- none of the conditions is met
+abbrev pub NoneMet : List Condition → Type 0
+NoneMet conditions = (c : Condition) → List·Memᴰ c conditions → c .met ≡ false
+
+-- n's condition is met, and none of those listed before it
+pub record FirstMet (n : ℕ) (conditions : List Condition) : Type 0 where
+  pub before : List Condition
+  pub after : List Condition
+  pub listed : conditions ≡ before ++ (n when true) ∷ after
+  pub unmet : NoneMet before
 
 -- ---- Counting routes
 
@@ -58,6 +138,18 @@ pub record Longest (address : ℕ) (routes : List Route) (r : Route) : Type 0 wh
   pub stored : Stored r routes
   pub matching : matches address r ≡ true
   pub longest : (q : Route) → Stored q routes → matches address q ≡ true → q .length ≤ r .length
+
+-- of a route and what is best among others, the longer
+unfoldable pub longer : Route → Option Route → Option Route
+longer r none = some r
+longer r (some q) = cond (ltb (q .length) (r .length)) (some r) (some q)
+
+-- the longest route that matches, if one does
+unfoldable pub longest : (address : ℕ) → List Route → Option Route
+longest address [] = none
+longest address (r ∷ routes) =
+    let others = longest address routes in
+    cond (matches address r) (longer r others) others
 
 -- no stored route matches
 abbrev pub NoMatch : (address : ℕ) (routes : List Route) → Type 0
@@ -127,7 +219,7 @@ number-given t routes (Change p L hop) = change-number routes p L hop
 unfoldable pub marks : Settings → (L j : ℕ) → Route → Bool
 marks t L j r = eqb (r .length) L && any (eqb j) (positions t L (r .prefix))
 
--- at length L each filter position of the address is a position of some stored route of that length
+-- whatever position the address has in the filter of length L, a stored route of length L has it too
 unfoldable pub covered : Settings → List Route → (address L : ℕ) → Bool
 covered t routes address L = all (λ j. exists (marks t L j) routes) (positions t L (prefix L address))
 

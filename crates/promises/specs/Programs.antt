@@ -1,4 +1,5 @@
--- Any program for the table, whatever its calls do, and what it must promise. A program that breaks one of these is shut out.
+-- Any program for the table, whatever its calls do, and the part of the promises by which shams are shown up: a program that
+-- breaks one of these is shut out.
 use Prim.Native.Nat.{ℕ, _^_, _<_}
 use mathlib.Core.Path.{_≡_}
 use mathlib.Core.Bool.{true}

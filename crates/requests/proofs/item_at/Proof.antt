@@ -3,7 +3,7 @@ use mathlib.Core.Path.{sym, _∙_}
 use native.Mathlib.Omega.{arith}
 use borrow.Author.Needs.{needs}
 use borrow.Author.Tests.{eq-eqb, ne-eqb, lt-ltb, le-ltb}
-use Rattle.requests.specs.Shapes.{number, item, with-octet, with-length, with-hop}
+use Rattle.requests.specs.Shapes.{item, with-octet, with-length, with-hop}
 use Rattle.requests.proofs.Digits.{number-most}
 use Rattle.requests.proofs.item_at.Statement.{statement}
 use Rattle.requests.proofs.item_at.Tie as tie

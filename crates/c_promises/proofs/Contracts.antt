@@ -1,0 +1,92 @@
+-- The records of specs/Calls.antt are what the contracts of crates/gateway ensure, as a caller learns it, so each proof
+-- is to hand it on. Here a holds a call's arguments in their order, r is what the call gives back, end holds the arguments
+-- at exit, and good is what comes with every call by the types of its arguments: a prefix or an address is below 2^32.
+-- That whoever may make a call has good stands at the end.
+use Prim.Native.Nat.{ℕ}
+use mathlib.Core.Path.{_≡_, refl}
+use mathlib.Core.List.{List}
+use base.Logic.{ent}
+use contract.Lifetimes.{Lfts, Shares}
+use contract.Monad.{fact}
+use denote.RattleType.{Valss}
+use denote.Ref.{now}
+use denote.Signature.{typesAt}
+use denote.Triple.Clauses.{AtExit}
+use denote.Triple.Entry.{onEntry}
+use borrow.Fn.World.{World, ArgsD, ResD}
+use borrow.Fn.Kinds.{GoodsP}
+use borrow.Author.Tests.{lt-ltb}
+use Rattle.promises.specs.History.{Clear, Add, Withdraw, Change, word-sized, act}
+use Rattle.promises.proofs.Contracts.{owned}
+use Rattle.c_promises.specs.Calls.{Updated, bytes-of, LookedUp, Matched}
+use Rattle.gateway.proofs.Arguments.{settings, past}
+use Rattle.gateway.proofs.gateway_clear
+use Rattle.gateway.proofs.gateway_clear.Reads as clear-reads
+use Rattle.gateway.proofs.gateway_add
+use Rattle.gateway.proofs.gateway_add.Kinds as add-kinds
+use Rattle.gateway.proofs.gateway_add.Reads as add-reads
+use Rattle.gateway.proofs.gateway_withdraw
+use Rattle.gateway.proofs.gateway_withdraw.Kinds as withdraw-kinds
+use Rattle.gateway.proofs.gateway_withdraw.Reads as withdraw-reads
+use Rattle.gateway.proofs.gateway_change
+use Rattle.gateway.proofs.gateway_change.Kinds as change-kinds
+use Rattle.gateway.proofs.gateway_change.Reads as change-reads
+use Rattle.gateway.proofs.gateway_lookup
+use Rattle.gateway.proofs.gateway_lookup.Kinds as lookup-kinds
+use Rattle.gateway.proofs.gateway_lookup.Reads as lookup-reads
+use Rattle.gateway.proofs.gateway_match_vector
+use Rattle.gateway.proofs.gateway_match_vector.Kinds as match-vector-kinds
+use Rattle.gateway.proofs.gateway_match_vector.Reads as match-vector-reads
+
+pub clear-made : (κs : Lfts 2) (a : ArgsD gateway_clear.signature κs) (r : ResD gateway_clear.signature κs) (end : AtExit gateway_clear.ended κs) → clear-reads.Learnt κs a r end
+    → Updated (settings a) Clear (now (past a .0)) (now (past a .1 .0)) r (now (past end .0)) (now (past end .1 .0))
+unfolding word-sized act
+clear-made κs a r end learnt = record { word = refl; crossed = learnt }
+
+pub add-made : (κs : Lfts 2) (a : ArgsD gateway_add.signature κs) (r : ResD gateway_add.signature κs) (end : AtExit gateway_add.ended κs) → GoodsP κs add-kinds.ps a → add-reads.Learnt κs a r end
+    → Updated (settings a) (Add (past a .1 .1 .0) (past a .1 .1 .1 .0) (past a .1 .1 .1 .1 .0)) (now (past a .0)) (now (past a .1 .0)) r (now (past end .0)) (now (past end .1 .0))
+unfolding word-sized act
+add-made κs a r end good learnt = record { word = lt-ltb _ _ (past good .1 .1 .0 .1); crossed = learnt }
+
+pub withdraw-made : (κs : Lfts 2) (a : ArgsD gateway_withdraw.signature κs) (r : ResD gateway_withdraw.signature κs) (end : AtExit gateway_withdraw.ended κs) → GoodsP κs withdraw-kinds.ps a → withdraw-reads.Learnt κs a r end
+    → Updated (settings a) (Withdraw (past a .1 .1 .0) (past a .1 .1 .1 .0)) (now (past a .0)) (now (past a .1 .0)) r (now (past end .0)) (now (past end .1 .0))
+unfolding word-sized act
+withdraw-made κs a r end good learnt = record { word = lt-ltb _ _ (past good .1 .1 .0 .1); crossed = learnt }
+
+pub change-made : (κs : Lfts 2) (a : ArgsD gateway_change.signature κs) (r : ResD gateway_change.signature κs) (end : AtExit gateway_change.ended κs) → GoodsP κs change-kinds.ps a → change-reads.Learnt κs a r end
+    → Updated (settings a) (Change (past a .1 .1 .0) (past a .1 .1 .1 .0) (past a .1 .1 .1 .1 .0)) (now (past a .0)) (now (past a .1 .0)) r (now (past end .0)) (now (past end .1 .0))
+unfolding word-sized act
+change-made κs a r end good learnt = record { word = lt-ltb _ _ (past good .1 .1 .0 .1); crossed = learnt }
+
+-- Lookup and match vector read the slots as bytes. Where these are the bytes of the words that an update left, they are
+-- asked of the same table.
+
+pub lookup-made : (κs : Lfts 2) (a : ArgsD gateway_lookup.signature κs) (r : ResD gateway_lookup.signature κs) (end : AtExit gateway_lookup.ended κs) → GoodsP κs lookup-kinds.ps a → lookup-reads.Learnt κs a r end
+    → (slots : List ℕ) → now (past a .1 .0) ≡ bytes-of slots → LookedUp (settings a) (now (past a .0)) slots (past a .1 .1 .0) r
+lookup-made κs a r end good learnt slots lies = record { word = past good .1 .1 .0 .1; crossed = rw (← lies) learnt }
+
+pub match-vector-made : (κs : Lfts 2) (a : ArgsD gateway_match_vector.signature κs) (r : ResD gateway_match_vector.signature κs) (end : AtExit gateway_match_vector.ended κs) → GoodsP κs match-vector-kinds.ps a → match-vector-reads.Learnt κs a r end
+    → (slots : List ℕ) → now (past a .1 .0) ≡ bytes-of slots → Matched (settings a) (now (past a .0)) slots (past a .1 .1 .0) r
+match-vector-made κs a r end good learnt slots lies = record { word = past good .1 .1 .0 .1; crossed = rw (← lies) learnt }
+
+-- In every model of the logic, what a call asks on entry holds what the types of its arguments tell.
+module _ (w : World) (κs : Lfts 2) (qs : Shares 2) where
+  pub add-owned : (a : ArgsD gateway_add.signature κs) (vss : Valss (typesAt (gateway_add.signature .params) κs))
+      → ent (w .𝓤) (onEntry (w .𝓤) (w .H) (w .𝓖 .A) gateway_add.signature κs qs a vss) (fact (w .𝓤) (GoodsP κs add-kinds.ps a))
+  add-owned = owned w add-kinds.ps add-kinds.r κs qs
+
+  pub withdraw-owned : (a : ArgsD gateway_withdraw.signature κs) (vss : Valss (typesAt (gateway_withdraw.signature .params) κs))
+      → ent (w .𝓤) (onEntry (w .𝓤) (w .H) (w .𝓖 .A) gateway_withdraw.signature κs qs a vss) (fact (w .𝓤) (GoodsP κs withdraw-kinds.ps a))
+  withdraw-owned = owned w withdraw-kinds.ps withdraw-kinds.r κs qs
+
+  pub change-owned : (a : ArgsD gateway_change.signature κs) (vss : Valss (typesAt (gateway_change.signature .params) κs))
+      → ent (w .𝓤) (onEntry (w .𝓤) (w .H) (w .𝓖 .A) gateway_change.signature κs qs a vss) (fact (w .𝓤) (GoodsP κs change-kinds.ps a))
+  change-owned = owned w change-kinds.ps change-kinds.r κs qs
+
+  pub lookup-owned : (a : ArgsD gateway_lookup.signature κs) (vss : Valss (typesAt (gateway_lookup.signature .params) κs))
+      → ent (w .𝓤) (onEntry (w .𝓤) (w .H) (w .𝓖 .A) gateway_lookup.signature κs qs a vss) (fact (w .𝓤) (GoodsP κs lookup-kinds.ps a))
+  lookup-owned = owned w lookup-kinds.ps lookup-kinds.r κs qs
+
+  pub match-vector-owned : (a : ArgsD gateway_match_vector.signature κs) (vss : Valss (typesAt (gateway_match_vector.signature .params) κs))
+      → ent (w .𝓤) (onEntry (w .𝓤) (w .H) (w .𝓖 .A) gateway_match_vector.signature κs qs a vss) (fact (w .𝓤) (GoodsP κs match-vector-kinds.ps a))
+  match-vector-owned = owned w match-vector-kinds.ps match-vector-kinds.r κs qs

@@ -1,0 +1,4 @@
+-- What a C program sees: the number that each call of include/gateway.h gives back, the parts that the header reads
+-- from it, and the calls that a program made one after the other.
+pub mod Numbers
+pub mod Calls

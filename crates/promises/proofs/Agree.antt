@@ -1,0 +1,111 @@
+-- The promises on small worked histories: what a call's number and a lookup's answer should be by the stored routes is
+-- computed and compared. Ours agree, on the very histories that show up wrong programs (proofs/Shams.antt).
+use Prim.Native.Nat.{ℕ}
+use mathlib.Core.Path.{_≡_, refl}
+use mathlib.Core.Bool.{Bool, true, cond, not, _&&_}
+use mathlib.Core.List.{List, [], _∷_, _++_}
+use lib.Dec.{eqb}
+use lib.ListN.{replicate}
+use Rattle.rules.specs.declared.Settings.{Settings}
+use Rattle.rules.specs.declared.Answer.{Answer}
+use Rattle.rules.specs.Tools.{those}
+use Rattle.rules.specs.Table.{Memory, claims, bits-where, vector-of, down-from, bit-set, set-bits, search as searched, route-answer, default-answer, place-answer, refused, answer-of, lookup, one-if}
+use Rattle.rules.proofs.Worked.{ip, T, computing as rules-computing}
+use Rattle.promises.specs.History.{Call, Add, Withdraw, word-sized, all-word-sized, act, ask, about, without, with-hop, written, noted, Acting, next-by, after-by, history-by}
+use Rattle.promises.specs.Demands.{number-given, add-number, withdraw-number, change-number, exists, sum, number, crowded, beside, landings, overflows, matches, marks, covered, probes-down-to, longest, longer}
+use Rattle.promises.specs.Programs.{Asking}
+use Rattle.promises.proofs.Matches.{answer-by}
+
+-- lent memory that held sevens, of the sizes of T and of Z
+abbrev pub sevens : Memory
+sevens = record { counters = replicate 512 7; slots = replicate 257 7 }
+
+-- K 5, D 4, E 0, S 4 and multipliers 0: every route of length 32 lands five times on one counter
+abbrev pub Z : Settings
+Z = record { k = 5; d = 4; e = 0; s = 4; a = 0; b = 0; c = 0 }
+
+-- ---- What is due
+
+-- after the calls, one more is given the number that is due
+unfoldable pub right-number : Settings → Acting → List Call → Call → Bool
+right-number t acting calls call =
+    let s = history-by acting t sevens calls in
+    eqb (acting t call (s .memory) .refusal) (number-given t (s .routes) call)
+
+-- two answers are the same
+unfoldable pub same : Answer → Answer → Bool
+same one other =
+    eqb (one .refusal) (other .refusal)
+    && (cond (one .found) (other .found) (not (other .found))
+    && (eqb (one .hop) (other .hop) && (eqb (one .length) (other .length) && eqb (one .probes) (other .probes))))
+
+-- after the calls, a lookup has the answer that is due
+unfoldable pub right-answer : Settings → Acting → Asking → List Call → (address : ℕ) → Bool
+right-answer t acting asking calls address =
+    let s = history-by acting t sevens calls in
+    same (asking t address (s .memory)) (answer-by t (s .routes) address (longest address (s .routes)))
+
+-- ---- The histories
+
+-- 10/8 with hop 7, and 10.1/16 with hop 9
+unfoldable pub add-8 : Call
+add-8 = Add (ip 10 0 0 0) 8 7
+
+unfoldable pub add-16 : Call
+add-16 = Add (ip 10 1 0 0) 16 9
+
+-- 10/8 and 8/8 share a bucket of two and both their positions
+unfoldable pub pair : List Call
+pair = add-8 ∷ Add (ip 8 0 0 0) 8 5 ∷ []
+
+-- three routes of length 32
+unfoldable pub three : List Call
+three = Add 1 32 1 ∷ Add 2 32 1 ∷ Add 3 32 1 ∷ []
+
+-- a fourth, and the three withdrawn again
+unfoldable pub four-then-one : List Call
+four-then-one = three ++ Add 4 32 1 ∷ Withdraw 1 32 ∷ Withdraw 2 32 ∷ Withdraw 3 32 ∷ []
+
+-- to unfold this is to unfold all that a history computes with
+unfoldable pub computing : ℕ
+unfolding rules-computing act about without with-hop written noted next-by after-by history-by
+computing = 0
+
+-- and this, all that is due and all that a lookup computes with
+unfoldable pub showing : ℕ
+unfolding right-number right-answer same add-8 add-16 pair three four-then-one word-sized all-word-sized number-given add-number withdraw-number change-number exists sum number crowded beside landings overflows matches marks covered probes-down-to longest longer answer-by ask lookup answer-of refused place-answer route-answer default-answer searched set-bits bit-set vector-of bits-where claims down-from those one-if computing
+showing = 0
+
+-- ---- Ours
+
+-- each of these is so
+every : List Bool → Bool
+every [] = true
+every (right ∷ others) = right && every others
+
+-- as numbers-given says
+numbers-agree :
+    every (
+    right-number T act [] add-8
+    ∷ right-number T act (add-8 ∷ []) add-8
+    ∷ right-number T act (add-8 ∷ add-16 ∷ []) add-16
+    ∷ right-number T act (add-8 ∷ Withdraw (ip 10 0 0 0) 8 ∷ []) (Withdraw (ip 10 0 0 0) 8)
+    ∷ right-number T act pair (Withdraw (ip 10 0 0 0) 8)
+    ∷ right-number Z act three (Add 4 32 1)
+    ∷ []
+    ) ≡ true
+unfolding every showing
+numbers-agree = refl
+
+-- as finds-longest, says-none and probes-counted say
+answers-agree :
+    every (
+    right-answer T act ask [] 0
+    ∷ right-answer T act ask (add-8 ∷ []) (ip 10 2 2 3)
+    ∷ right-answer T act ask (add-8 ∷ add-16 ∷ []) (ip 10 2 2 3)
+    ∷ right-answer T act ask (pair ++ Withdraw (ip 8 0 0 0) 8 ∷ []) (ip 10 2 2 3)
+    ∷ right-answer Z act ask four-then-one 4
+    ∷ []
+    ) ≡ true
+unfolding every showing
+answers-agree = refl

@@ -1,0 +1,194 @@
+-- The listed conditions are what the calls check: each check of the rules is its condition, and what a chain of checks
+-- gives back is the number of the first condition that is met.
+use Prim.Native.Nat.{ℕ, zero, suc, _≤_, _<_}
+use mathlib.Core.Path.{_≡_, refl, sym, ap, ap₂, _∙_}
+use mathlib.Core.Bool.{Bool, true, false, cond, not, _&&_, _||_}
+use mathlib.Core.List.{List, [], _∷_, _++_, map, List·Memᴰ·head, List·Memᴰ·tail, List·Memᴰ·not-nil, append-nil}
+use mathlib.Core.Option.{Option, some, none}
+use mathlib.Core.Logic.{_↔_}
+use native.Mathlib.Omega.{arith}
+use lib.Dec.{ltb, leb, eqb}
+use lib.ListN.{length}
+use borrow.Author.Tests.{ltb-true, leb-true, leb-false, lt-ltb, le-ltb, ne-eqb}
+use Rattle.rules.specs.declared.Settings.{Settings}
+use Rattle.rules.specs.Tools.{within, all as every, lowest, or-else}
+use Rattle.rules.specs.Table.{in-range, Memory, counters-size, slots-size, slot-number, occupied, mark-at, prefix-at, holds, free, held, vacant, is-some, stored, refuse, sized, from-1, full, passes-15, runs-short, memory-refusal, add-refusal, withdraw-refusal, change-refusal, update, clear, add, withdraw, change}
+use Rattle.rules.proofs.Members.{both}
+use Rattle.rules.proofs.Prefixes.{loose-low}
+use Rattle.rules.proofs.Refusals.{memory-order, add-order, withdraw-order, change-order}
+use Rattle.promises.specs.History.{Call, Clear, Add, Withdraw, Change, act}
+use Rattle.promises.specs.Demands.{Condition, outside, some-below, every-below, there, no-slot-left, memory-conditions, route-conditions, conditions, NoneMet, FirstMet}
+use Rattle.promises.proofs.Sums.{by-cases}
+
+-- ---- The first that is met
+
+-- its number, 0 where none is met
+unfoldable pub first-met : List Condition → ℕ
+first-met [] = 0
+first-met (c ∷ rest) = refuse (c .met) (c .number) (first-met rest)
+
+none-of : (c : Condition) {rest : List Condition} → c .met ≡ false → NoneMet rest → NoneMet (c ∷ rest)
+none-of c unmet others d (List·Memᴰ·head e) = ap (λ x. x .met) e ∙ unmet
+none-of c unmet others d (List·Memᴰ·tail among) = others d among
+
+first-given : (all : List Condition) (n : ℕ) → 1 ≤ n → first-met all ≡ n → FirstMet n all
+unfolding first-met refuse
+first-given [] n low e = absurd (omega arith)
+first-given (c ∷ rest) n low e = go (c .met) refl e (first-given rest n low)
+  where
+    go : (b : Bool) → c .met ≡ b → cond b (c .number) (first-met rest) ≡ n → (first-met rest ≡ n → FirstMet n rest) → FirstMet n (c ∷ rest)
+    go true met e later = record {
+      before = [];
+      after = rest;
+      listed = λ i. record { number = e i; met = met i } ∷ rest;
+      unmet = λ d among. absurd (List·Memᴰ·not-nil among);
+    }
+    go false unmet e later =
+        let its = later e in
+        record { before = c ∷ its .before; after = its .after; listed = ap (λ others. c ∷ others) (its .listed); unmet = none-of c unmet (its .unmet) }
+
+-- what is not met is passed by
+passed-by : (before rest : List Condition) → NoneMet before → first-met (before ++ rest) ≡ first-met rest
+unfolding first-met refuse
+passed-by [] rest unmet = refl
+passed-by (c ∷ before) rest unmet = rw (unmet c (List·Memᴰ·head refl)) (passed-by before rest (λ d among. unmet d (List·Memᴰ·tail among)))
+
+first-is : (all : List Condition) (n : ℕ) → FirstMet n all → first-met all ≡ n
+unfolding first-met refuse
+first-is all n first = ap first-met (first .listed) ∙ passed-by (first .before) _ (first .unmet)
+
+-- no condition's number is 0
+unfoldable pub numbered : List Condition → Bool
+numbered all = every (ltb 0) (map (λ c. c .number) all)
+
+unmet-all : (all : List Condition) → numbered all ≡ true → first-met all ≡ 0 → NoneMet all
+unfolding numbered every first-met refuse
+unmet-all [] numbers e = λ c among. absurd (List·Memᴰ·not-nil among)
+unmet-all (c ∷ rest) numbers e =
+    let parts = both (ltb 0 (c .number)) (numbered rest) numbers in
+    go (c .met) refl e (ltb-true 0 (c .number) (parts .0)) (unmet-all rest (parts .1))
+  where
+    go : (b : Bool) → c .met ≡ b → cond b (c .number) (first-met rest) ≡ 0 → 0 < c .number → (first-met rest ≡ 0 → NoneMet rest) → NoneMet (c ∷ rest)
+    go true met e positive later = absurd (omega arith)
+    go false unmet e positive later = none-of c unmet (later e)
+
+-- a number that was given back for the first condition met
+module _ (all : List Condition) {given : ℕ} (first : given ≡ first-met all) where
+  pub given-exactly : (n : ℕ) → 1 ≤ n → (given ≡ n) ↔ FirstMet n all
+  given-exactly n low = (λ e. first-given all n low (sym first ∙ e), λ its. first ∙ first-is all n its)
+
+  pub none-exactly : numbered all ≡ true → (given ≡ 0) ↔ NoneMet all
+  unfolding first-met
+  none-exactly numbers = (λ e. unmet-all all numbers (sym first ∙ e), λ unmet. first ∙ rw (append-nil) at (passed-by all [] unmet))
+
+-- ---- Each check is its condition
+
+not-both : (a b : Bool) → not (a && b) ≡ not a || not b
+not-both true b = refl
+not-both false b = refl
+
+within-outside : (low high n : ℕ) → not (within low high n) ≡ outside low high n
+unfolding within outside
+within-outside low high n = not-both (leb low n) (leb n high) ∙ ap₂ _||_ (sym (otherwise low n)) (sym (otherwise n high))
+  where
+    otherwise : (a b : ℕ) → ltb b a ≡ not (leb a b)
+    otherwise a b = by-cases (leb a b) (λ h. rw (h, le-ltb b a (leb-true a b h))) (λ h. rw (h, lt-ltb b a (leb-false a b h)))
+
+is-some-below : (test : ℕ → Bool) (n : ℕ) → is-some (lowest test n) ≡ some-below test n
+unfolding lowest some-below is-some
+is-some-below test zero = refl
+is-some-below test (suc n) = go (lowest test n) (test n) (is-some-below test n)
+  where
+    go : (o : Option ℕ) (b : Bool) → is-some o ≡ some-below test n → is-some (or-else o (cond b (some n) none)) ≡ some-below test n || b
+    go (some s) b e = rw (← e)
+    go none true e = rw (← e)
+    go none false e = rw (← e)
+
+not-some-below : (test : ℕ → Bool) (n : ℕ) → not (some-below (λ s. not (test s)) n) ≡ every-below test n
+unfolding some-below every-below
+not-some-below test zero = refl
+not-some-below test (suc n) = go (some-below (λ s. not (test s)) n) (test n) (not-some-below test n)
+  where
+    go : (a b : Bool) → not a ≡ every-below test n → not (a || not b) ≡ every-below test n && b
+    go true b e = rw (← e)
+    go false true e = rw (← e)
+    go false false e = rw (← e)
+
+stored-there : (t : Settings) (slots : List ℕ) (L p : ℕ) → stored t slots L p ≡ there t slots L p
+unfolding stored there held holds
+stored-there t slots L p = rw (is-some-below (λ s. occupied (mark-at slots (slot-number t L p s)) && eqb (prefix-at slots (slot-number t L p s)) p) (t .s))
+
+full-left : (t : Settings) (slots : List ℕ) (L p : ℕ) → full t slots L p ≡ no-slot-left t slots L p
+unfolding full no-slot-left vacant free
+full-left t slots L p =
+    ap not (is-some-below (λ s. not (occupied (mark-at slots (slot-number t L p s)))) (t .s))
+    ∙ not-some-below (λ s. occupied (mark-at slots (slot-number t L p s))) (t .s)
+
+from-1-up : (L : ℕ) (bad : Bool) → from-1 L bad ≡ ltb 0 L && bad
+unfolding from-1
+from-1-up zero bad = refl
+from-1-up (suc L) bad = rw (ne-eqb (suc L) 0 (omega arith), lt-ltb 0 (suc L) (omega arith))
+
+range-outside : (t : Settings) → not (in-range t) ≡ outside 1 8 (t .k) || (outside 4 11 (t .d) || (outside 0 8 (t .e) || outside 1 8 (t .s)))
+unfolding in-range
+range-outside t =
+    let k = within 1 8 (t .k) in
+    let d = within 4 11 (t .d) in
+    let e = within 0 8 (t .e) in
+    let s = within 1 8 (t .s) in
+    rw (not-both k (d && (e && s)), not-both d (e && s), not-both e s, within-outside 1 8 (t .k), within-outside 4 11 (t .d), within-outside 0 8 (t .e), within-outside 1 8 (t .s))
+
+sizes-differ : (t : Settings) (m : Memory) → not (sized t m) ≡ not (eqb (length (m .counters)) (counters-size t)) || not (eqb (length (m .slots)) (slots-size t))
+unfolding sized
+sizes-differ t m = not-both (eqb (length (m .counters)) (counters-size t)) (eqb (length (m .slots)) (slots-size t))
+
+-- ---- So what a call gives back is the number of the first condition met
+
+pub memory-first : (t : Settings) (m : Memory) → memory-refusal t m 0 ≡ first-met (memory-conditions t m)
+unfolding first-met memory-conditions
+memory-first t m = memory-order t m 0 ∙ rw (range-outside t, sizes-differ t m)
+
+add-first : (t : Settings) (m : Memory) (p L hop : ℕ) → add-refusal t m p L hop ≡ first-met (conditions t (Add p L hop) m)
+unfolding first-met conditions memory-conditions route-conditions passes-15
+add-first t m p L hop =
+    add-order t m p L hop ∙ memory-order t m _
+    ∙ rw (
+      range-outside t,
+      sizes-differ t m,
+      loose-low L p,
+      stored-there t (m .slots) L p,
+      full-left t (m .slots) L p,
+      from-1-up L (no-slot-left t (m .slots) L p),
+      from-1-up L (passes-15 t (m .counters) L p),
+    )
+
+withdraw-first : (t : Settings) (m : Memory) (p L : ℕ) → withdraw-refusal t m p L ≡ first-met (conditions t (Withdraw p L) m)
+unfolding first-met conditions memory-conditions route-conditions runs-short
+withdraw-first t m p L =
+    withdraw-order t m p L ∙ memory-order t m _
+    ∙ rw (range-outside t, sizes-differ t m, loose-low L p, stored-there t (m .slots) L p, from-1-up)
+
+change-first : (t : Settings) (m : Memory) (p L hop : ℕ) → change-refusal t m p L hop ≡ first-met (conditions t (Change p L hop) m)
+unfolding first-met conditions memory-conditions route-conditions
+change-first t m p L hop =
+    change-order t m p L hop ∙ memory-order t m _
+    ∙ rw (range-outside t, sizes-differ t m, loose-low L p, stored-there t (m .slots) L p)
+
+pub call-first : (t : Settings) (call : Call) (m : Memory) → act t call m .refusal ≡ first-met (conditions t call m)
+unfolding act clear add withdraw change update conditions
+call-first t Clear m = memory-first t m
+call-first t (Add p L hop) m = add-first t m p L hop
+call-first t (Withdraw p L) m = withdraw-first t m p L
+call-first t (Change p L hop) m = change-first t m p L hop
+
+-- no number is 0
+pub memory-numbered : (t : Settings) (m : Memory) → numbered (memory-conditions t m) ≡ true
+unfolding numbered every memory-conditions
+memory-numbered t m = refl
+
+pub call-numbered : (t : Settings) (call : Call) (m : Memory) → numbered (conditions t call m) ≡ true
+unfolding numbered every conditions memory-conditions route-conditions
+call-numbered t Clear m = refl
+call-numbered t (Add p L hop) m = refl
+call-numbered t (Withdraw p L) m = refl
+call-numbered t (Change p L hop) m = refl
