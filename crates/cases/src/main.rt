@@ -1,12 +1,14 @@
-// The worked cases of docs/TABLE.md and the refusals at their limits, run over the calls. Each
-// line has a call with its arguments and what it gives back: for an update its number, for a lookup
-// refusal, found, hop, length and probes. The expected output is written from docs/TABLE.md.
+// The worked cases of docs/TABLE.md, the refusals at their limits and damaged memory, run over the
+// calls. Each line has a case and what its call gives back; what can be asked from C too is asked both
+// ways, and after a call that writes two sums show what the lent memory holds. The file stdout comes
+// from the rules alone: tests/cases works it out, and has no code of the crates.
+ghost use Prim.Native.Nat.{_≤_};
 use libc::STDOUT_FILENO;
 use rules::Settings;
 
-// A case is four numbers in one, in hex: what it calls, a prefix, a length and a hop, as the call has
-// them. For FIND and VECTOR the address stands in the prefix's place, for COUNTER and WORD a place in
-// the lent memory.
+// A case is four numbers in one, in hex: what is done, a prefix, a length and a hop, as the call has
+// them. For FIND and VECTOR the address stands in the prefix's place; what stands there for the rest
+// is said here.
 const CLEAR: u32 = 0;
 
 const ADD: u32 = 1;
@@ -19,26 +21,74 @@ const FIND: u32 = 4;
 
 const VECTOR: u32 = 5;
 
+// A place among the counters.
 const COUNTER: u32 = 6;
 
+// A place among the words.
 const WORD: u32 = 7;
 
-// P3 to P8, then the limits of lengths, host bits, hops and what is stored, with settings T.
-const SMALL: [u64; 35] = [
+// Damage: a byte or a word to write, and its place where the hop stands.
+const PUT_COUNTER: u32 = 8;
+
+const PUT_WORD: u32 = 9;
+
+// K, D, E and S, a byte each.
+const SHAPE: u32 = 10;
+
+// A, B or C.
+const MULTIPLIER_A: u32 = 11;
+
+const MULTIPLIER_B: u32 = 12;
+
+const MULTIPLIER_C: u32 = 13;
+
+// How many counters are lent.
+const LEND_COUNTERS: u32 = 14;
+
+// How many words are lent and, where the hop stands, how many bytes for them to C.
+const LEND_SLOTS: u32 = 15;
+
+const CASES: [u64; 300] = [
+    // Settings T, and memory that was never cleared: every slot holds 0.0.0.7 with the mark 7, and
+    // every counter is 7.
+    0xa_02040102_00_00000,
+    0xb_00000001_00_00000,
+    0xc_00000002_00_00000,
+    0xd_00000001_00_00000,
+    0xe_00000200_00_00000,
+    0xf_00000101_00_00404,
+    0x4_00000007_00_00000,
+    0x4_00000008_00_00000,
+    0x5_00000008_00_00000,
+    0x2_00000007_20_00000,
+    0x4_00000007_00_00000,
     0x0_00000000_00_00000,
+    // P3.
     0x1_00000000_08_00007,
     0x6_00000070_00_00000,
     0x2_00000000_08_00000,
+    // P4.
     0x1_0a000000_08_00007,
     0x4_08010203_00_00000,
     0x5_08010203_00_00000,
+    // P5 and P6.
     0x1_0a010000_10_00009,
     0x4_0a010203_00_00000,
     0x4_0a020203_00_00000,
     0x5_0a020203_00_00000,
+    // P7.
     0x4_0b000001_00_00000,
     0x1_00000000_00_00003,
     0x4_0b000001_00_00000,
+    // The default is stored, changed, withdrawn, and then not stored.
+    0x1_00000000_00_00004,
+    0x3_00000000_00_00005,
+    0x4_0b000001_00_00000,
+    0x2_00000000_00_00000,
+    0x4_0b000001_00_00000,
+    0x2_00000000_00_00000,
+    0x3_00000000_00_00005,
+    // P8.
     0x0_00000000_00_00000,
     0x1_0a000000_08_00007,
     0x1_08000000_08_00005,
@@ -47,103 +97,314 @@ const SMALL: [u64; 35] = [
     0x4_0a020203_00_00000,
     0x1_09000000_08_00006,
     0x7_0000003a_00_00000,
+    // The other slot of the bucket is used again too.
+    0x2_0a000000_08_00000,
+    0x1_0b000000_08_00004,
+    0x7_00000038_00_00000,
+    0x4_0b000001_00_00000,
+    // The refusals at their limits, each before the next one in order.
     0x0_00000000_00_00000,
     0x1_0a000001_20_00007,
     0x1_0a000000_21_00007,
-    0x1_0a000001_21_00007,
-    0x1_0a000001_08_00007,
+    0x1_0a000001_21_10000,
+    0x1_0a000001_08_10000,
     0x1_00000001_00_00007,
     0x1_0a000000_08_0ffff,
     0x1_0c000000_08_10000,
+    0x1_0a000000_08_10000,
     0x1_0a000000_08_00007,
+    0x2_0a000000_21_00000,
+    0x2_0a000001_08_00000,
+    0x2_0b000000_08_00000,
+    0x3_0a000000_21_00007,
+    0x3_0a000001_08_10000,
+    0x3_0b000000_08_10000,
     0x3_0b000000_08_00007,
     0x3_0a000000_08_00004,
     0x4_0a090909_00_00000,
-    0x2_0b000000_08_00000,
-];
-
-// P9, and with other settings P10: routes of length 32.
-const HOSTS: [u64; 6] = [
+    // Lengths 1, 31 and 32.
+    0x0_00000000_00_00000,
+    0x1_40000000_01_00001,
+    0x1_80000000_01_00001,
+    0x1_0a000003_1f_00002,
+    0x1_0a000002_1f_00002,
+    0x1_0a000003_20_00003,
+    0x4_c8010101_00_00000,
+    0x4_0a000002_00_00000,
+    0x5_0a000002_00_00000,
+    0x4_0a000003_00_00000,
+    0x5_0a000003_00_00000,
+    0x3_0a000003_20_00000,
+    0x4_0a000003_00_00000,
+    // A mark of 65,537 means free, one of 65,536 is hop 65,535, and 0 means free beside any prefix.
+    0x0_00000000_00_00000,
+    0x9_0a000000_00_00038,
+    0x9_00010001_00_00039,
+    0x8_00000001_00_00070,
+    0x8_00000001_00_00071,
+    0x4_0a000001_00_00000,
+    0x2_0a000000_08_00000,
+    0x3_0a000000_08_00005,
+    0x1_0a000000_08_00005,
+    0x4_0a000001_00_00000,
+    0x9_00010000_00_00039,
+    0x4_0a000001_00_00000,
+    0x9_00000000_00_00039,
+    0x4_0a000001_00_00000,
+    0x9_ffffffff_00_00039,
+    0x4_0a000001_00_00000,
+    0x9_00010001_00_00100,
+    0x4_0b000001_00_00000,
+    0x9_00010000_00_00100,
+    0x4_0b000001_00_00000,
+    0x9_ffffffff_00_00100,
+    0x1_00000000_00_00008,
+    // The same prefix twice in its bucket: the lower slot answers, is changed and is withdrawn first.
+    0x0_00000000_00_00000,
+    0x1_0a000000_08_00007,
+    0x9_0a000000_00_0003a,
+    0x9_00000009_00_0003b,
+    0x8_00000002_00_00070,
+    0x8_00000002_00_00071,
+    0x4_0a000001_00_00000,
+    0x3_0a000000_08_00014,
+    0x2_0a000000_08_00000,
+    0x4_0a000001_00_00000,
+    0x2_0a000000_08_00000,
+    0x4_0a000001_00_00000,
+    // A prefix in another bucket than its own is not stored.
+    0x9_0a000000_00_0003c,
+    0x9_00000005_00_0003d,
+    0x2_0a000000_08_00000,
+    0x1_0a000000_08_00007,
+    // A stored route whose counters are too low: it is not found, and its withdrawal is refused.
+    0x0_00000000_00_00000,
+    0x1_0a000000_08_00007,
+    0x8_00000000_00_00070,
+    0x4_0a000001_00_00000,
+    0x1_0a000000_08_00007,
+    0x2_0a000000_08_00000,
+    0x8_00000001_00_00070,
+    0x8_00000000_00_00071,
+    0x2_0a000000_08_00000,
+    0x1_00000000_08_00006,
+    0x8_00000001_00_00070,
+    0x2_00000000_08_00000,
+    0x8_00000002_00_00070,
+    0x2_00000000_08_00000,
+    // Counters at 14, 15, 16 and 255.
+    0x0_00000000_00_00000,
+    0x8_0000000e_00_00071,
+    0x1_0a000000_08_00007,
+    0x6_00000071_00_00000,
+    0x1_08000000_08_00007,
+    0x2_0a000000_08_00000,
+    0x6_00000071_00_00000,
+    0x8_0000000f_00_00071,
+    0x1_0a000000_08_00007,
+    0x8_00000010_00_00071,
+    0x1_0a000000_08_00007,
+    0x8_000000ff_00_00071,
+    0x1_0a000000_08_00007,
+    0x8_0000000d_00_00070,
+    0x1_00000000_08_00007,
+    0x2_00000000_08_00000,
+    0x8_0000000e_00_00070,
+    0x1_00000000_08_00007,
+    0x8_000000ff_00_00070,
+    0x9_0a000000_00_00038,
+    0x9_00000003_00_00039,
+    0x4_0a000001_00_00000,
+    0x2_0a000000_08_00000,
+    // Number 9 is asked of the prefix: 240.0.0.0/4 has positions 15 and 13.
+    0x0_00000000_00_00000,
+    0x8_0000000f_00_0003d,
+    0x1_f0000000_04_00007,
+    0x8_00000000_00_0003d,
+    0x8_0000000f_00_00030,
+    0x1_f0000000_04_00007,
+    // Settings out of range, before sizes: every call, then each range on both sides of its ends.
+    0xa_09040102_00_00000,
+    0x0_00000000_00_00000,
+    0x1_0a000000_08_00007,
+    0x2_f0000000_04_00000,
+    0x3_f0000000_04_00008,
+    0x4_f0000001_00_00000,
+    0x5_f0000001_00_00000,
+    0xa_00040102_00_00000,
+    0x0_00000000_00_00000,
+    0xa_02030102_00_00000,
+    0x4_f0000001_00_00000,
+    0xa_020c0102_00_00000,
+    0x5_f0000001_00_00000,
+    0xa_02040902_00_00000,
+    0x4_f0000001_00_00000,
+    0xa_02040100_00_00000,
+    0x0_00000000_00_00000,
+    0xa_02040109_00_00000,
+    0x5_f0000001_00_00000,
+    0xa_020b0102_00_00000,
+    0x4_f0000001_00_00000,
+    0xa_02040802_00_00000,
+    0x5_f0000001_00_00000,
+    0xa_02040108_00_00000,
+    0x4_f0000001_00_00000,
+    0xa_01040102_00_00000,
+    0x4_f0000001_00_00000,
+    0xa_08040102_00_00000,
+    0x4_f0000001_00_00000,
+    0xa_02040102_00_00000,
+    // Sizes, before lengths: one too few and one too many of each, and bytes that are no whole words.
+    0xe_000001ff_00_00000,
+    0x0_00000000_00_00000,
+    0x4_f0000001_00_00000,
+    0x5_f0000001_00_00000,
+    0xe_00000201_00_00000,
+    0x1_0a000000_21_00007,
+    0x2_f0000000_04_00000,
+    0x4_f0000001_00_00000,
+    0xe_00000200_00_00000,
+    0xf_00000100_00_00400,
+    0x0_00000000_00_00000,
+    0x3_f0000000_04_00008,
+    0x4_f0000001_00_00000,
+    0x5_f0000001_00_00000,
+    0xf_00000102_00_00408,
+    0x0_00000000_00_00000,
+    0x4_f0000001_00_00000,
+    0x5_f0000001_00_00000,
+    0xf_00000101_00_00403,
+    0x4_f0000001_00_00000,
+    0xf_00000101_00_00406,
+    0x4_f0000001_00_00000,
+    0x5_f0000001_00_00000,
+    0xf_00000101_00_00404,
+    0x4_f0000001_00_00000,
+    // Settings U and W1.
+    0xa_03060302_00_00000,
+    0xb_9e3779b1_00_00000,
+    0xc_85ebca77_00_00000,
+    0xd_c2b2ae3d_00_00000,
+    0xe_00000800_00_00000,
+    0xf_00000401_00_01004,
+    0x0_00000000_00_00000,
+    0x1_0a000000_08_00007,
+    0x1_0a010000_10_00009,
+    0x1_0a030000_10_00004,
+    0x6_000003d8_00_00000,
+    0x4_0a010203_00_00000,
+    0x4_0a030203_00_00000,
+    // W2.
+    0x4_1c690001_00_00000,
+    0x5_1c690001_00_00000,
+    0x2_0a030000_10_00000,
+    0x6_000003d8_00_00000,
+    0x4_0a010203_00_00000,
+    0x4_0a030203_00_00000,
+    0x4_1c690001_00_00000,
+    // W3.
+    0x1_0a1b0000_10_00001,
+    0x1_0a0c0000_10_00002,
+    0x6_000003f0_00_00000,
+    0x2_0a1b0000_10_00000,
+    0x6_000003f0_00_00000,
+    0x6_000003ef_00_00000,
+    // K 8 with unlike multipliers, one slot to a bucket.
+    0xa_08050201_00_00000,
+    0xb_9e3779b1_00_00000,
+    0xc_7feb352d_00_00000,
+    0xd_846ca68b_00_00000,
+    0xe_00000400_00_00000,
+    0xf_00000101_00_00404,
+    0x0_00000000_00_00000,
+    0x1_c0a80000_10_00001,
+    0x1_c0a80100_18_00002,
+    0x1_c0a80101_20_00003,
+    0x1_ac100000_0c_00004,
+    0x4_c0a80101_00_00000,
+    0x4_c0a80102_00_00000,
+    0x4_c0a8ff01_00_00000,
+    0x5_c0a80101_00_00000,
+    0x4_ac1f0001_00_00000,
+    0x1_c0a90000_10_00005,
+    0x1_c0ab0000_10_00005,
+    0x1_c0ad0000_10_00005,
+    0x2_c0a80100_18_00000,
+    0x4_c0a80101_00_00000,
+    0x4_c0a80102_00_00000,
+    // K 8 and B 0: all steps on one position. E 0, with a multiplier C that is not 0.
+    0xa_08040003_00_00000,
+    0xb_9e3779b1_00_00000,
+    0xc_00000000_00_00000,
+    0xd_c2b2ae3d_00_00000,
+    0xe_00000200_00_00000,
+    0xf_000000c1_00_00304,
+    0x0_00000000_00_00000,
+    0x1_c0000000_08_00001,
+    0x1_8c000000_08_00002,
+    0x1_c1000000_08_00002,
+    0x1_d0000000_08_00003,
+    0x1_d1000000_08_00004,
+    0x1_e0000000_08_00005,
+    0x4_c0000001_00_00000,
+    0x4_d1000001_00_00000,
+    0x2_d0000000_08_00000,
+    0x1_e0000000_08_00005,
+    0x1_f0000000_08_00005,
+    // P9.
+    0xa_05040004_00_00000,
+    0xb_00000000_00_00000,
+    0xc_00000000_00_00000,
+    0xd_00000000_00_00000,
+    0xe_00000200_00_00000,
+    0xf_00000101_00_00404,
     0x0_00000000_00_00000,
     0x1_00000001_20_00001,
     0x1_00000002_20_00001,
     0x1_00000003_20_00001,
     0x6_000001f0_00_00000,
     0x1_00000004_20_00001,
+    // P10, with S 2 and then with S 1.
+    0xa_08040002_00_00000,
+    0xf_00000081_00_00204,
+    0x0_00000000_00_00000,
+    0x1_00000001_20_00001,
+    0x1_00000002_20_00001,
+    0xa_08040001_00_00000,
+    0xf_00000041_00_00104,
+    0x0_00000000_00_00000,
+    0x1_00000001_20_00001,
+    0x1_00000002_20_00001,
 ];
 
-// What a clear says to memory of the wrong size.
-const CLEARED: [u64; 1] = [0x0_00000000_00_00000];
-
-fn number(n: u32) {
-    io::write_all(STDOUT_FILENO, b" ");
-    io::print_decimal(STDOUT_FILENO, n as u64);
+// How much of the memory is lent: counters, words, and bytes for the words to C.
+struct Sizes {
+    counters: usize,
+    words: usize,
+    bytes: usize,
 }
 
-fn flag(b: bool) -> u32 {
-    if b { 1 } else { 0 }
+// What a case does.
+fn what_of(case: u64) -> u32 {
+    (case / 0x1000_0000_0000_0000) as u32
 }
 
-fn wide(counter: u8) -> u32 {
-    counter as u32
+// A case's prefix, or what stands there.
+fn prefix_of(case: u64) -> u32 {
+    (case / 0x1000_0000 % 0x1_0000_0000) as u32
 }
 
-// Asks a question of the table and writes the answer.
-fn ask(t: Settings, counters: &[u8], slots: &[u32], what: u32, at: u32) {
-    if what == FIND {
-        let r = table::lookup(t, counters, slots, at);
-        number(r.refusal);
-        number(flag(r.found));
-        number(r.hop);
-        number(r.length);
-        number(r.probes);
-    }
-    if what == VECTOR {
-        let r = table::match_vector(t, counters, slots, at);
-        number(r.refusal);
-        number(r.vector);
-    }
-    let place = at as usize;
-    if what == COUNTER {
-        if place < counters.len() {
-            number(wide(counters[place]));
-        }
-    }
-    if what == WORD {
-        if place < slots.len() {
-            number(slots[place]);
-        }
-    }
+fn length_of(case: u64) -> u32 {
+    (case / 0x10_0000 % 0x100) as u32
 }
 
-// Makes a call that writes, and gives back its number.
-fn act(
-    t: Settings,
-    counters: &mut [u8],
-    slots: &mut [u32],
-    what: u32,
-    p: u32,
-    length: u32,
-    hop: u32,
-) -> u32 {
-    if what == CLEAR {
-        return table::clear(t, counters, slots);
-    }
-    if what == ADD {
-        return table::add(t, counters, slots, p, length, hop);
-    }
-    if what == WITHDRAW {
-        return table::withdraw(t, counters, slots, p, length);
-    }
-    table::change(t, counters, slots, p, length, hop)
+// A case's hop, or what stands there.
+fn hop_of(case: u64) -> u32 {
+    (case % 0x10_0000) as u32
 }
 
-// The first half of a case's line.
-fn begin(what: u32, p: u32, length: u32, hop: u32) {
-    io::print_decimal(STDOUT_FILENO, what as u64);
-    number(p);
-    number(length);
-    number(hop);
+fn begin(case: u64) {
+    io::print_hex(STDOUT_FILENO, case, 16);
     io::write_all(STDOUT_FILENO, b":");
 }
 
@@ -151,80 +412,324 @@ fn end() {
     io::write_all(STDOUT_FILENO, b"\n");
 }
 
-// One case and its line.
-fn case(
-    t: Settings,
-    counters: &mut [u8],
-    slots: &mut [u32],
-    what: u32,
-    p: u32,
-    length: u32,
-    hop: u32,
-) {
-    begin(what, p, length, hop);
-    if what < FIND {
-        number(act(t, counters, slots, what, p, length, hop));
-        end();
-        return;
-    }
-    ask(t, counters, slots, what, p);
-    end();
+fn number(n: u32) {
+    io::write_all(STDOUT_FILENO, b" ");
+    io::print_decimal(STDOUT_FILENO, n as u64);
 }
 
-// The cases of a list.
-fn run(t: Settings, cases: &[u64], counters: &mut [u8], slots: &mut [u32]) {
+// A number in hex: a sum, or what C gets, whose parts are then whole digits.
+fn digits(n: u64) {
+    io::write_all(STDOUT_FILENO, b" ");
+    io::print_hex(STDOUT_FILENO, n, 1);
+}
+
+fn flag(b: bool) -> u32 {
+    if b { 1 } else { 0 }
+}
+
+fn least(a: usize, b: usize) -> usize
+    ensures { λ r. ⌜ r ≤ b ⌝ }
+{
+    if a < b { a } else { b }
+}
+
+fn wide(byte: u8) -> u32 {
+    byte as u32
+}
+
+// The settings after a case.
+fn set(t: Settings, case: u64) -> Settings {
+    let what = what_of(case);
+    let n = prefix_of(case);
+    let mut next = t;
+    if what == SHAPE {
+        next.k = n / 0x100_0000;
+        next.d = n / 0x1_0000 % 0x100;
+        next.e = n / 0x100 % 0x100;
+        next.s = n % 0x100;
+    }
+    if what == MULTIPLIER_A {
+        next.a = n;
+    }
+    if what == MULTIPLIER_B {
+        next.b = n;
+    }
+    if what == MULTIPLIER_C {
+        next.c = n;
+    }
+    next
+}
+
+// The sizes after a case.
+fn lend(sizes: Sizes, case: u64) -> Sizes {
+    let what = what_of(case);
+    let mut next = sizes;
+    if what == LEND_COUNTERS {
+        next.counters = prefix_of(case) as usize;
+    }
+    if what == LEND_SLOTS {
+        next.words = prefix_of(case) as usize;
+        next.bytes = hop_of(case) as usize;
+    }
+    next
+}
+
+// Puts a byte at a place, if it is there.
+fn put_byte(bytes: &mut [u8], place: usize, byte: u8) {
+    if place < bytes.len() {
+        bytes[place] = byte;
+    }
+}
+
+// Puts a word at a place, if it is there.
+fn put_word(words: &mut [u32], place: usize, word: u32) {
+    if place < words.len() {
+        words[place] = word;
+    }
+}
+
+// Puts a word into the bytes that C lends for it, the low byte first.
+fn put_bytes(bytes: &mut [u8], place: usize, word: u32) {
+    if bytes.len() / 4 <= place {
+        return;
+    }
+    let at = 4 * place;
+    bytes[at] = (word % 0x100) as u8;
+    bytes[at + 1] = (word / 0x100 % 0x100) as u8;
+    bytes[at + 2] = (word / 0x1_0000 % 0x100) as u8;
+    bytes[at + 3] = (word / 0x100_0000) as u8;
+}
+
+// The words as the bytes that C lends for them.
+fn copy_words(words: &[u32], bytes: &mut [u8]) {
     let mut i = 0;
-    while i < cases.len() {
-        let x = cases[i];
-        let what = (x / 0x1000_0000_0000_0000 % 0x10) as u32;
-        let p = (x / 0x1000_0000 % 0x1_0000_0000) as u32;
-        let length = (x / 0x10_0000 % 0x100) as u32;
-        let hop = (x % 0x10_0000) as u32;
-        case(t, counters, slots, what, p, length, hop);
+    while i < words.len() {
+        put_bytes(bytes, i, words[i]);
         i += 1;
     }
 }
 
-fn settings_t() -> Settings {
-    Settings {
-        k: 2,
-        d: 4,
-        e: 1,
-        s: 2,
-        a: 1,
-        b: 2,
-        c: 1,
+// A sum with one number more; the order counts.
+fn plus(sum: u64, n: u32) -> u64 {
+    (sum % 0x100_0000_0000 * 31 + n as u64) % 0x100_0000_0000
+}
+
+fn sum_of_counters(counters: &[u8]) -> u64 {
+    let mut sum: u64 = 0;
+    let mut i = 0;
+    while i < counters.len() {
+        sum = plus(sum, wide(counters[i]));
+        i += 1;
+    }
+    sum
+}
+
+fn sum_of_slots(slots: &[u32]) -> u64 {
+    let mut sum: u64 = 0;
+    let mut i = 0;
+    while i < slots.len() {
+        sum = plus(sum, slots[i]);
+        i += 1;
+    }
+    sum
+}
+
+fn find(t: Settings, counters: &[u8], slots: &[u32], bytes: &[u8], address: u32) {
+    let r = table::lookup(t, counters, slots, address);
+    number(r.refusal);
+    number(flag(r.found));
+    number(r.hop);
+    number(r.length);
+    number(r.probes);
+    digits(gateway::gateway_lookup(t.k, t.d, t.e, t.s, t.a, t.b, t.c, counters, bytes, address));
+}
+
+fn vector(t: Settings, counters: &[u8], slots: &[u32], bytes: &[u8], address: u32) {
+    let r = table::match_vector(t, counters, slots, address);
+    number(r.refusal);
+    number(r.vector);
+    digits(gateway::gateway_match_vector(
+        t.k,
+        t.d,
+        t.e,
+        t.s,
+        t.a,
+        t.b,
+        t.c,
+        counters,
+        bytes,
+        address,
+    ));
+}
+
+// Asks the table.
+fn ask(t: Settings, counters: &[u8], slots: &[u32], bytes: &[u8], case: u64) {
+    if what_of(case) == FIND {
+        find(t, counters, slots, bytes, prefix_of(case));
+    } else {
+        vector(t, counters, slots, bytes, prefix_of(case));
     }
 }
 
-// Multipliers 0, D 4 and E 0.
-fn flat(k: u32, s: u32) -> Settings {
-    Settings {
-        k: k,
-        d: 4,
+// Reads a place of the lent memory.
+fn read(counters: &[u8], slots: &[u32], case: u64) {
+    let what = what_of(case);
+    let place = prefix_of(case) as usize;
+    if what == COUNTER && place < counters.len() {
+        number(wide(counters[place]));
+    }
+    if what == WORD && place < slots.len() {
+        number(slots[place]);
+    }
+}
+
+// Makes a call that writes, and gives back what C gets from it.
+fn act(t: Settings, counters: &mut [u8], slots: &mut [u32], case: u64) -> u64 {
+    let what = what_of(case);
+    let p = prefix_of(case);
+    let length = length_of(case);
+    let hop = hop_of(case);
+    if what == CLEAR {
+        return gateway::gateway_clear(t.k, t.d, t.e, t.s, t.a, t.b, t.c, counters, slots);
+    }
+    if what == ADD {
+        return gateway::gateway_add(
+            t.k,
+            t.d,
+            t.e,
+            t.s,
+            t.a,
+            t.b,
+            t.c,
+            counters,
+            slots,
+            p,
+            length,
+            hop,
+        );
+    }
+    if what == WITHDRAW {
+        return gateway::gateway_withdraw(
+            t.k,
+            t.d,
+            t.e,
+            t.s,
+            t.a,
+            t.b,
+            t.c,
+            counters,
+            slots,
+            p,
+            length,
+        );
+    }
+    gateway::gateway_change(
+        t.k,
+        t.d,
+        t.e,
+        t.s,
+        t.a,
+        t.b,
+        t.c,
+        counters,
+        slots,
+        p,
+        length,
+        hop,
+    )
+}
+
+// Writes a byte or a word past every call.
+fn damage(counters: &mut [u8], slots: &mut [u32], case: u64) {
+    let what = what_of(case);
+    let n = prefix_of(case);
+    let place = hop_of(case) as usize;
+    if what == PUT_COUNTER {
+        put_byte(counters, place, (n % 0x100) as u8);
+        return;
+    }
+    if what != PUT_WORD {
+        return;
+    }
+    put_word(slots, place, n);
+}
+
+// A call that writes, and what the lent memory then holds.
+fn update(t: Settings, counters: &mut [u8], slots: &mut [u32], case: u64) {
+    digits(act(t, counters, slots, case));
+    digits(sum_of_counters(counters));
+    digits(sum_of_slots(slots));
+}
+
+// A case over the memory that is lent for it.
+fn call(t: Settings, counters: &mut [u8], slots: &mut [u32], bytes: &mut [u8], case: u64) {
+    let what = what_of(case);
+    if what < FIND {
+        update(t, counters, slots, case);
+        return;
+    }
+    if what < COUNTER {
+        copy_words(slots, bytes);
+        ask(t, counters, slots, bytes, case);
+        return;
+    }
+    read(counters, slots, case);
+    damage(counters, slots, case);
+}
+
+// A case over as much of the memory as is lent.
+fn call_lent(
+    t: Settings,
+    sizes: Sizes,
+    counters: &mut [u8],
+    slots: &mut [u32],
+    bytes: &mut [u8],
+    case: u64,
+) {
+    let counters_lent = least(sizes.counters, counters.len());
+    let words_lent = least(sizes.words, slots.len());
+    let bytes_lent = least(sizes.bytes, bytes.len());
+    call(
+        t,
+        &mut counters[..counters_lent],
+        &mut slots[..words_lent],
+        &mut bytes[..bytes_lent],
+        case,
+    );
+}
+
+// The cases of a list, one after the other over the same memory.
+fn run(cases: &[u64], counters: &mut [u8], slots: &mut [u32], bytes: &mut [u8]) {
+    let mut t = Settings {
+        k: 0,
+        d: 0,
         e: 0,
-        s: s,
+        s: 0,
         a: 0,
         b: 0,
         c: 0,
+    };
+    let mut sizes = Sizes {
+        counters: 0,
+        words: 0,
+        bytes: 0,
+    };
+    let mut i = 0;
+    while i < cases.len() {
+        let case = cases[i];
+        t = set(t, case);
+        sizes = lend(sizes, case);
+        begin(case);
+        call_lent(t, sizes, counters, slots, bytes, case);
+        end();
+        i += 1;
     }
 }
 
 fn main() {
-    let mut counters = [7u8; 512];
-    let mut slots = [7u32; 257];
-    run(settings_t(), &SMALL, &mut counters, &mut slots);
-    run(flat(5, 4), &HOSTS, &mut counters, &mut slots);
-    let mut two = [7u32; 129];
-    run(flat(8, 2), &HOSTS, &mut counters, &mut two);
-    let mut one = [7u32; 65];
-    run(flat(8, 1), &HOSTS, &mut counters, &mut one);
-    let mut shorter = [0u8; 511];
-    run(settings_t(), &CLEARED, &mut shorter, &mut slots);
-    let mut longer = [0u8; 513];
-    run(settings_t(), &CLEARED, &mut longer, &mut slots);
-    let mut fewer = [0u32; 256];
-    run(settings_t(), &CLEARED, &mut counters, &mut fewer);
-    let mut more = [0u32; 258];
-    run(settings_t(), &CLEARED, &mut counters, &mut more);
+    // Before the first clear the memory holds something else than zeros.
+    let mut counters = [7u8; 2048];
+    let mut slots = [7u32; 1025];
+    let mut bytes = [7u8; 4104];
+    run(&CASES, &mut counters, &mut slots, &mut bytes);
 }
