@@ -1,25 +1,40 @@
-# make test is the one test command: its last line is the verdict, 'N passed, 0 failed'.
+# A route table for small gateways, proved. What there is:
 #
 #   make run                       proves and builds the text program and runs it on standard input
+#   make test                      every test; its last line is the verdict, 'N passed, 0 failed'
 #   make lib                       the proved library for C: target/staticlib/libgateway.a
 #   make examples                  target/forward, a C program that forwards by a table
 #   make install PREFIX=/usr/local header, archive and pkg-config file; DESTDIR is put before PREFIX
+#   make uninstall                 takes these three away again
+#   make settings                  measures which settings take how many routes; SEED=1 fixes them
 #   make second                    target/second, the independent program that checks the library and
 #                                  the text program
 #   make soak SECONDS=60           runs it on random histories, or CALLS=10000000; SEED=1 fixes them
-#   make bench                     the lookup's time beside one written by hand in C, and the text
-#                                  program's beside the second program
-.PHONY: test run lib examples install second soak bench
+#   make edits                     runs each wrong edit of code, to show that it is a wrong program
+#   make bench                     the time of lookups and updates beside calls written by hand in C, and
+#                                  the text program's beside the second program
+#   make clean                     removes target/, where all of this is built
+#
+# Needed are the kit's command rt on the PATH (but for make settings and make clean), gcc for all that
+# is C, rustc for second, soak, bench and test, g++ and python3 for test. The first make run or make lib
+# takes two minutes, make test thirteen.
+.DEFAULT_GOAL = help
+.PHONY: help test run lib examples install uninstall settings second soak edits bench clean
 
-VERSION = 0.1.0
+VERSION := $(shell sed -n 's/^.define GATEWAY_VERSION "\(.*\)"/\1/p' include/gateway.h)
 PREFIX = /usr/local
 RT = tools/rt
 RUSTC = rustc
 CC = tools/x86-cc
 CFLAGS = -O2
 WARNINGS = -std=c99 -Wall -Wextra -Wpedantic
+# Compiles what needs no library, for the machine at hand.
+NATIVE_CC = gcc
 
 ARCHIVE = target/staticlib/libgateway.a
+
+help:
+	@sed -n '/^[^#]/q; s/^# \{0,1\}//p' Makefile
 
 test:
 	@tests/all
@@ -38,16 +53,32 @@ examples: target/forward
 target/forward: examples/forward.c include/gateway.h $(ARCHIVE)
 	$(CC) $(WARNINGS) $(CFLAGS) -Iinclude -o $@ examples/forward.c $(ARCHIVE)
 
+INTO = $(DESTDIR)$(PREFIX)
+INSTALLED = include/gateway.h lib/libgateway.a lib/pkgconfig/gateway.pc
+CHECK_PREFIX = case '$(PREFIX)' in /*) ;; *) echo "make $@: PREFIX must be a path from /: '$(PREFIX)'" >&2; exit 1 ;; esac
+
+# In gateway.pc a space within a path has a backslash before it.
 install: lib
-	@case '$(PREFIX)' in /*) ;; *) echo "make install: PREFIX must be a path from /: '$(PREFIX)'" >&2; exit 1 ;; esac
-	install -d '$(DESTDIR)$(PREFIX)/include' '$(DESTDIR)$(PREFIX)/lib/pkgconfig'
-	install -m 644 include/gateway.h '$(DESTDIR)$(PREFIX)/include/gateway.h'
-	install -m 644 $(ARCHIVE) '$(DESTDIR)$(PREFIX)/lib/libgateway.a'
-	@printf '%s\n' 'prefix=$(PREFIX)' 'includedir=$${prefix}/include' 'libdir=$${prefix}/lib' '' \
-	    'Name: gateway' 'Description: Route table with longest-prefix match, proved' \
+	@$(CHECK_PREFIX)
+	install -d '$(INTO)/include' '$(INTO)/lib/pkgconfig'
+	install -m 644 include/gateway.h '$(INTO)/include'
+	install -m 644 $(ARCHIVE) '$(INTO)/lib'
+	@printf '%s\n' "prefix=$$(printf '%s' '$(PREFIX)' | sed 's/ /\\ /g')" 'includedir=$${prefix}/include' \
+	    'libdir=$${prefix}/lib' '' 'Name: gateway' 'Description: Route table with longest-prefix match, proved' \
 	    'Version: $(VERSION)' 'Cflags: -I$${includedir}' 'Libs: -L$${libdir} -lgateway' \
-	    > '$(DESTDIR)$(PREFIX)/lib/pkgconfig/gateway.pc'
-	@chmod 644 '$(DESTDIR)$(PREFIX)/lib/pkgconfig/gateway.pc'
+	    > '$(INTO)/lib/pkgconfig/gateway.pc'
+	@chmod 644 '$(INTO)/lib/pkgconfig/gateway.pc'
+
+uninstall:
+	@$(CHECK_PREFIX)
+	@for file in $(INSTALLED); do rm -f '$(INTO)'/$$file || exit 1; done
+
+settings: target/settings
+	@target/settings $(SEED)
+
+target/settings: bench/settings.c
+	@mkdir -p target
+	@$(NATIVE_CC) $(WARNINGS) -O2 -o $@ bench/settings.c
 
 second: target/second target/host
 
@@ -61,12 +92,29 @@ target/host: second/host.c include/gateway.h $(ARCHIVE)
 soak: second
 	@target/second $(if $(SEED),--seed $(SEED)) $(if $(CALLS),--calls $(CALLS),--seconds $(or $(SECONDS),60))
 
+edits: target/second
+	@tests/edits
+
+# What is measured: on x86-64 the archive; elsewhere, where that would run under an emulator, an object for
+# the machine at hand, compiled from the module that the archive is compiled from. It is not shipped.
+ifeq ($(shell uname -m),x86_64)
+MEASURED = $(ARCHIVE)
+else
+MEASURED = target/native.o
+endif
+
+target/native.o: $(ARCHIVE) tools/native
+	@tools/native $@
+
 bench: target/bench target/second
 	@$(RT) check routes >&2
-	@[ "$$(uname -m)" = x86_64 ] || echo 'x86-64 is emulated on this machine: answers are compared, but times say little'
+	@[ '$(MEASURED)' = '$(ARCHIVE)' ] || echo 'the library is measured as compiled for this machine, the text program under an emulator'
 	@target/bench
 	@echo
 	@bench/lines
 
-target/bench: bench/bench.c bench/table.c bench/table.h include/gateway.h $(ARCHIVE)
-	$(CC) $(WARNINGS) -O3 -Iinclude -Ibench -o $@ bench/bench.c bench/table.c $(ARCHIVE)
+target/bench: bench/bench.c bench/table.c bench/table.h include/gateway.h $(MEASURED)
+	$(NATIVE_CC) $(WARNINGS) -O3 -Iinclude -Ibench -o $@ bench/bench.c bench/table.c $(MEASURED)
+
+clean:
+	rm -rf target

@@ -1,7 +1,8 @@
 /*
- * Measures the proved lookup beside one written by hand in C, on the same tables and the same million
- * addresses, in turns within one run. Every answer of the two is compared. Settings are arguments to
- * both, so neither compiler knows them.
+ * Measures the proved calls beside calls written by hand in C: lookups of the same million addresses,
+ * and withdrawals and adds of the same routes, on the same tables, in turns within one run. Every
+ * answer of the two is compared, and after updates every byte. Settings are arguments to both, so
+ * neither compiler knows them.
  */
 #define _POSIX_C_SOURCE 199309L
 
@@ -14,21 +15,27 @@
 #include <string.h>
 #include <time.h>
 
-enum { ADDRESSES = 1000000, ROUNDS = 9, MOST_ROUTES = 6000 };
+enum { ADDRESSES = 1000000, PAIRS = 100000, ROUNDS = 9, MOST_ROUTES = 6000 };
 
 struct route {
     uint32_t prefix, length, hop;
 };
 
+/* So many routes are offered, and what the buckets have room for is stored. */
 struct table {
     uint32_t routes, k, d, e, s;
 };
 
-/* Settings that fit each number of routes best: no length has room for more than 2048. */
 static const struct table tables[] = {
     {90, 4, 8, 5, 4},
     {2000, 2, 11, 8, 8},
     {6000, 2, 11, 8, 8},
+};
+
+static const struct table updated[] = {
+    {90, 4, 11, 8, 8},
+    {2000, 4, 11, 8, 8},
+    {6000, 4, 11, 8, 8},
 };
 
 static const uint32_t a = 0x9e3779b1, b = 0x85ebca6b, c = 0xc2b2ae35;
@@ -39,8 +46,8 @@ static const uint32_t share[33] = {
     [17] = 9,  [18] = 14, [19] = 26, [20] = 44, [21] = 52, [22] = 115, [23] = 100, [24] = 615,
 };
 
-static struct route routes[MOST_ROUTES];
-static uint32_t addresses[ADDRESSES];
+static struct route routes[MOST_ROUTES], stored[MOST_ROUTES];
+static uint32_t addresses[ADDRESSES], turns[PAIRS];
 static uint64_t by_hand[ADDRESSES], in_turn[ADDRESSES], proved[ADDRESSES];
 
 static uint64_t state = 1;
@@ -122,60 +129,110 @@ static double now(void)
     return (double)t.tv_sec * 1e9 + (double)t.tv_nsec;
 }
 
-/* The best nanoseconds a lookup in these rounds so far. */
-#define MEASURE(best, answers, lookup)                                                             \
+/* The best nanoseconds a call in these rounds so far. */
+static void keep_best(double *best, double start, double calls)
+{
+    double took = (now() - start) / calls;
+    if (*best == 0 || took < *best)
+        *best = took;
+}
+
+/* What every call is lent. */
+#define SETTINGS t->k, t->d, t->e, t->s, a, b, c
+#define LENT(m) SETTINGS, (m)->counters, (m)->bytes, (m)->slots, (m)->words
+#define ASKED(m) SETTINGS, (m)->counters, (m)->bytes, (const uint8_t *)(m)->slots, 4 * (m)->words
+
+#define MEASURE_LOOKUPS(best, m, answers, lookup)                                                  \
     do {                                                                                           \
         double start = now();                                                                      \
         for (size_t i = 0; i < ADDRESSES; i++)                                                     \
-            (answers)[i] = lookup(t->k, t->d, t->e, t->s, a, b, c, counters, bytes,                \
-                                  (const uint8_t *)slots, 4 * words, addresses[i]);                \
-        double took = (now() - start) / ADDRESSES;                                                 \
-        if (best == 0 || took < best)                                                              \
-            best = took;                                                                           \
+            (answers)[i] = lookup(ASKED(m), addresses[i]);                                         \
+        keep_best(&(best), start, ADDRESSES);                                                      \
     } while (0)
 
-/* An update of both tables. */
-#define UPDATE(call, ...)                                                                          \
-    update(hand_##call(t->k, t->d, t->e, t->s, a, b, c, hand_counters, bytes, hand_slots, words,   \
-                       __VA_ARGS__),                                                               \
-           gateway_##call(t->k, t->d, t->e, t->s, a, b, c, counters, bytes, slots, words,          \
-                          __VA_ARGS__))
+/* Each route is withdrawn and added again. */
+#define MEASURE_UPDATES(best, m, answers, withdraw, add)                                           \
+    do {                                                                                           \
+        double start = now();                                                                      \
+        for (size_t i = 0; i < PAIRS; i++) {                                                       \
+            const struct route *r = &stored[turns[i]];                                             \
+            (answers)[2 * i] = withdraw(LENT(m), r->prefix, r->length);                            \
+            (answers)[2 * i + 1] = add(LENT(m), r->prefix, r->length, r->hop);                     \
+        }                                                                                          \
+        keep_best(&(best), start, 2 * PAIRS);                                                      \
+    } while (0)
 
-static uint32_t update(uint64_t hand, uint64_t gateway)
+struct memory {
+    uint8_t *counters;
+    uint32_t *slots;
+    size_t bytes, words;
+};
+
+static struct memory lend_table(const struct table *t)
+{
+    size_t bytes = gateway_counters_bytes(t->d), words = gateway_slots_words(t->e, t->s);
+    return (struct memory){lend(bytes), lend(4 * words), bytes, words};
+}
+
+static void take_back(const struct memory *m)
+{
+    free(m->counters);
+    free(m->slots);
+}
+
+static void check_memory(const struct memory *one, const struct memory *other)
+{
+    check(memcmp(one->counters, other->counters, one->bytes) == 0 &&
+              memcmp(one->slots, other->slots, 4 * one->words) == 0,
+          "memory");
+}
+
+static uint32_t same(uint64_t hand, uint64_t gateway)
 {
     check(hand == gateway, "an update");
     return gateway_refusal(gateway);
 }
 
-static void measure(const struct table *t)
+/* A call of both tables that writes, and the number it gives. */
+#define UPDATE(call, ...) same(hand_##call(LENT(hand), __VA_ARGS__), gateway_##call(LENT(gateway), __VA_ARGS__))
+
+/* Fills both tables; some routes are withdrawn, added again and changed, as in a table that has been
+   used. Answers how many are then stored. */
+static uint32_t fill(const struct table *t, const struct memory *hand, const struct memory *gateway)
 {
-    size_t bytes = gateway_counters_bytes(t->d), words = gateway_slots_words(t->e, t->s);
-    uint8_t *counters = lend(bytes), *hand_counters = lend(bytes);
-    uint32_t *slots = lend(4 * words), *hand_slots = lend(4 * words);
-
     make_routes(t->routes);
-    make_addresses(t->routes);
-    check(gateway_clear(t->k, t->d, t->e, t->s, a, b, c, counters, bytes, slots, words) == 0 &&
-              hand_clear(t->k, t->d, t->e, t->s, a, b, c, hand_counters, bytes, hand_slots, words) == 0,
-          "clear");
-
-    /* Some routes are withdrawn, added again and changed, as in a table that has been used. */
-    uint32_t refused = 0;
+    check(same(hand_clear(LENT(hand)), gateway_clear(LENT(gateway))) == GATEWAY_OK, "clear");
     for (uint32_t i = 0; i < t->routes; i++)
         UPDATE(add, routes[i].prefix, routes[i].length, 0);
     for (uint32_t i = 0; i < t->routes; i += 3)
         UPDATE(withdraw, routes[i].prefix, routes[i].length);
     for (uint32_t i = 0; i < t->routes; i++)
         UPDATE(add, routes[i].prefix, routes[i].length, routes[i].hop);
+    uint32_t many = 0;
     for (uint32_t i = 0; i < t->routes; i++)
-        refused += UPDATE(change, routes[i].prefix, routes[i].length, routes[i].hop) != GATEWAY_OK;
-    check(memcmp(counters, hand_counters, bytes) == 0 && memcmp(slots, hand_slots, 4 * words) == 0, "memory");
+        if (UPDATE(change, routes[i].prefix, routes[i].length, routes[i].hop) == GATEWAY_OK)
+            stored[many++] = routes[i];
+    check_memory(hand, gateway);
+    return many;
+}
 
-    double hand = 0, turn = 0, gateway = 0;
+static void print_table(const struct table *t, uint32_t many)
+{
+    printf("%7u  %6u  %u %2u %u %u", (unsigned)t->routes, (unsigned)many, (unsigned)t->k,
+           (unsigned)t->d, (unsigned)t->e, (unsigned)t->s);
+}
+
+static void measure_lookups(const struct table *t)
+{
+    struct memory hand = lend_table(t), gateway = lend_table(t);
+    uint32_t many = fill(t, &hand, &gateway);
+    make_addresses(t->routes);
+
+    double hand_ns = 0, turn_ns = 0, proved_ns = 0;
     for (int round = 0; round < ROUNDS; round++) {
-        MEASURE(hand, by_hand, hand_lookup);
-        MEASURE(gateway, proved, gateway_lookup);
-        MEASURE(turn, in_turn, hand_lookup_in_turn);
+        MEASURE_LOOKUPS(hand_ns, &gateway, by_hand, hand_lookup);
+        MEASURE_LOOKUPS(proved_ns, &gateway, proved, gateway_lookup);
+        MEASURE_LOOKUPS(turn_ns, &gateway, in_turn, hand_lookup_in_turn);
     }
     check(memcmp(by_hand, proved, sizeof proved) == 0, "a lookup");
     check(memcmp(in_turn, proved, sizeof proved) == 0, "a lookup");
@@ -185,24 +242,48 @@ static void measure(const struct table *t)
         probes += gateway_probes(proved[i]);
         none += gateway_length(proved[i]) == 0;
     }
-    printf("%6u  %u %2u %u %u  %7u  %6.2f  %6.1f%%  %7.1f  %9.1f  %5.2f  %7.1f  %5.2f\n",
-           (unsigned)t->routes, (unsigned)t->k, (unsigned)t->d, (unsigned)t->e, (unsigned)t->s,
-           (unsigned)refused, (double)probes / ADDRESSES, 100.0 * (double)none / ADDRESSES, hand,
-           gateway, gateway / hand, turn, gateway / turn);
+    print_table(t, many);
+    printf("  %6.2f  %6.1f%%  %7.1f  %9.1f  %5.2f  %7.1f  %5.2f\n", (double)probes / ADDRESSES,
+           100.0 * (double)none / ADDRESSES, hand_ns, proved_ns, proved_ns / hand_ns, turn_ns,
+           proved_ns / turn_ns);
     fflush(stdout);
-    free(counters);
-    free(hand_counters);
-    free(slots);
-    free(hand_slots);
+    take_back(&hand);
+    take_back(&gateway);
+}
+
+static void measure_updates(const struct table *t)
+{
+    struct memory hand = lend_table(t), gateway = lend_table(t);
+    uint32_t many = fill(t, &hand, &gateway);
+    for (size_t i = 0; i < PAIRS; i++)
+        turns[i] = random_below(many);
+
+    double hand_ns = 0, proved_ns = 0;
+    for (int round = 0; round < ROUNDS; round++) {
+        MEASURE_UPDATES(hand_ns, &hand, by_hand, hand_withdraw, hand_add);
+        MEASURE_UPDATES(proved_ns, &gateway, proved, gateway_withdraw, gateway_add);
+        check(memcmp(by_hand, proved, 2 * PAIRS * sizeof proved[0]) == 0, "an update");
+        check_memory(&hand, &gateway);
+    }
+    print_table(t, many);
+    printf("  %7.1f  %9.1f  %5.2f\n", hand_ns, proved_ns, proved_ns / hand_ns);
+    fflush(stdout);
+    take_back(&hand);
+    take_back(&gateway);
 }
 
 int main(void)
 {
     printf("nanoseconds to a lookup, best of %d rounds over %d addresses\n", ROUNDS, ADDRESSES);
     printf("hand: the same scheme in C; in turn: in C, with a filter asked only when its length's turn comes\n\n");
-    printf("routes  K  D E S  refused  probes  default  hand ns  proved ns  ratio  in turn  ratio\n");
+    printf("offered  stored  K  D E S  probes  default  hand ns  proved ns  ratio  in turn  ratio\n");
     for (size_t i = 0; i < sizeof tables / sizeof tables[0]; i++)
-        measure(&tables[i]);
-    printf("\nevery answer agrees\n");
+        measure_lookups(&tables[i]);
+    printf("\nnanoseconds to an update, best of %d rounds: %d times a stored route is withdrawn and added again\n\n",
+           ROUNDS, PAIRS);
+    printf("offered  stored  K  D E S  hand ns  proved ns  ratio\n");
+    for (size_t i = 0; i < sizeof updated / sizeof updated[0]; i++)
+        measure_updates(&updated[i]);
+    printf("\nevery answer agrees, and every byte\n");
     return 0;
 }

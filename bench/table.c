@@ -59,31 +59,37 @@ static uint64_t refuse_route(const struct settings *t, size_t counters_bytes, si
     return prefix_of(length, p) != p ? 4 : 0;
 }
 
-/* The lowest slot that is occupied and holds p; one past the bucket's last if there is none. */
-static size_t held(const struct settings *t, const uint32_t *slots, size_t first, uint32_t p)
-{
-    size_t n = first;
-    while (n < first + t->s && !(slots[2 * n] == p && occupied(slots[2 * n + 1])))
-        n++;
-    return n;
-}
+/* The slot that an update is about: none is one past the bucket's last. */
+struct found {
+    size_t held;   /* the lowest that is occupied and holds p */
+    size_t vacant; /* the lowest free one before it */
+    size_t none;
+};
 
-/* The lowest free slot; one past the bucket's last if there is none. */
-static size_t vacant(const struct settings *t, const uint32_t *slots, size_t first)
+/* One pass over p's bucket. */
+static struct found search(const struct settings *t, const uint32_t *slots, uint32_t length, uint32_t p)
 {
-    size_t n = first;
-    while (n < first + t->s && occupied(slots[2 * n + 1]))
-        n++;
-    return n;
+    size_t first = first_slot(t, length, p), end = first + t->s;
+    struct found found = {end, end, end};
+    for (size_t n = first; n < end; n++)
+        if (!occupied(slots[2 * n + 1])) {
+            if (found.vacant == end)
+                found.vacant = n;
+        } else if (slots[2 * n] == p) {
+            found.held = n;
+            break;
+        }
+    return found;
 }
 
 /* The K counters of p; the answer is how many there are. */
 static uint32_t places(const struct settings *t, uint32_t length, uint32_t p, size_t place[8])
 {
-    uint32_t g = t->a * p;
+    size_t start = ((size_t)length - 1) << t->d;
+    uint32_t g = t->a * p, growth = t->b * p;
     for (uint32_t i = 0; i < t->k; i++) {
-        place[i] = (((size_t)length - 1) << t->d) + (g >> (32 - t->d));
-        g += t->b * p;
+        place[i] = start + (g >> (32 - t->d));
+        g += growth;
     }
     return t->k;
 }
@@ -125,19 +131,18 @@ uint64_t hand_add(uint32_t k, uint32_t d, uint32_t e, uint32_t s, uint32_t a, ui
         slots[slots_words - 1] = hop + 1;
         return 0;
     }
-    size_t first = first_slot(&t, length, prefix);
-    if (held(&t, slots, first, prefix) < first + s)
+    struct found found = search(&t, slots, length, prefix);
+    if (found.held != found.none)
         return REFUSED(6);
-    size_t n = vacant(&t, slots, first);
-    if (n == first + s)
+    if (found.vacant == found.none)
         return REFUSED(8);
     size_t place[8];
     uint32_t many = places(&t, length, prefix, place);
     for (uint32_t i = 0; i < many; i++)
         if (counters[place[i]] + hits(place, many, place[i]) > 15)
             return REFUSED(9);
-    slots[2 * n] = prefix;
-    slots[2 * n + 1] = hop + 1;
+    slots[2 * found.vacant] = prefix;
+    slots[2 * found.vacant + 1] = hop + 1;
     for (uint32_t i = 0; i < many; i++)
         counters[place[i]]++;
     return 0;
@@ -157,17 +162,16 @@ uint64_t hand_withdraw(uint32_t k, uint32_t d, uint32_t e, uint32_t s, uint32_t 
         slots[slots_words - 1] = 0;
         return 0;
     }
-    size_t first = first_slot(&t, length, prefix);
-    size_t n = held(&t, slots, first, prefix);
-    if (n == first + s)
+    struct found found = search(&t, slots, length, prefix);
+    if (found.held == found.none)
         return REFUSED(7);
     size_t place[8];
     uint32_t many = places(&t, length, prefix, place);
     for (uint32_t i = 0; i < many; i++)
         if (counters[place[i]] < hits(place, many, place[i]))
             return REFUSED(10);
-    slots[2 * n] = 0;
-    slots[2 * n + 1] = 0;
+    slots[2 * found.held] = 0;
+    slots[2 * found.held + 1] = 0;
     for (uint32_t i = 0; i < many; i++)
         counters[place[i]]--;
     return 0;
@@ -190,11 +194,10 @@ uint64_t hand_change(uint32_t k, uint32_t d, uint32_t e, uint32_t s, uint32_t a,
         slots[slots_words - 1] = hop + 1;
         return 0;
     }
-    size_t first = first_slot(&t, length, prefix);
-    size_t n = held(&t, slots, first, prefix);
-    if (n == first + s)
+    struct found found = search(&t, slots, length, prefix);
+    if (found.held == found.none)
         return REFUSED(7);
-    slots[2 * n + 1] = hop + 1;
+    slots[2 * found.held + 1] = hop + 1;
     return 0;
 }
 
@@ -240,16 +243,6 @@ static inline uint64_t default_answer(const uint8_t *slots, size_t slots_bytes, 
 {
     uint32_t mark = word(slots, slots_bytes / 4 - 1);
     return occupied(mark) ? answer(mark, 0, probes) : probes;
-}
-
-uint64_t hand_match_vector(uint32_t k, uint32_t d, uint32_t e, uint32_t s, uint32_t a, uint32_t b,
-                           uint32_t c, const uint8_t *counters, size_t counters_bytes,
-                           const uint8_t *slots, size_t slots_bytes, uint32_t address)
-{
-    (void)slots;
-    const struct settings t = {k, d, e, s, a, b, c};
-    uint64_t refusal = refuse_bytes(&t, counters_bytes, slots_bytes);
-    return refusal != 0 ? REFUSED(refusal) : vector_of(&t, counters, address);
 }
 
 uint64_t hand_lookup(uint32_t k, uint32_t d, uint32_t e, uint32_t s, uint32_t a, uint32_t b,

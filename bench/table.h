@@ -31,8 +31,4 @@ uint64_t hand_lookup_in_turn(uint32_t k, uint32_t d, uint32_t e, uint32_t s, uin
                              uint32_t c, const uint8_t *counters, size_t counters_bytes,
                              const uint8_t *slots, size_t slots_bytes, uint32_t address);
 
-uint64_t hand_match_vector(uint32_t k, uint32_t d, uint32_t e, uint32_t s, uint32_t a, uint32_t b,
-                           uint32_t c, const uint8_t *counters, size_t counters_bytes,
-                           const uint8_t *slots, size_t slots_bytes, uint32_t address);
-
 #endif

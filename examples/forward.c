@@ -5,20 +5,29 @@
  *
  * The routes are the arguments, as 10.0.0.0/8 7; without arguments they are 10.0.0.0/8 to hop 7 and
  * 10.1.0.0/16 to hop 9. Each line of standard input is an address. For each, one line is written: hop,
- * length and probes, or "none" and the probes. A line that is no address is told on standard error and
- * passed over, and the exit status is then 1.
+ * length and probes, or "none" and the probes. A line that is no address is told on standard error,
+ * its odd bytes as \xNN, and passed over; the exit status is then 1.
  */
 #include <gateway.h>
 
 #include <stdio.h>
 #include <stdlib.h>
+#include <string.h>
 
-enum { K = 2, D = 4, E = 1, S = 2, A = 1, B = 2, C = 1 };
+/* These hold ninety routes of each length with room to spare: docs/SETTINGS.md has others. */
+enum { K = 4, D = 10, E = 7, S = 8 };
 
 static uint8_t counters[GATEWAY_COUNTERS_BYTES(D)];
 static uint32_t slots[GATEWAY_SLOTS_WORDS(E, S)];
+static struct gateway_table table = {
+    .settings = {.k = K, .d = D, .e = E, .s = S, .a = GATEWAY_GOOD_A, .b = GATEWAY_GOOD_B, .c = GATEWAY_GOOD_C},
+    .counters = counters,
+    .counters_bytes = sizeof counters,
+    .slots = slots,
+    .slots_words = sizeof slots / sizeof slots[0],
+};
 
-enum { SLOTS_WORDS = sizeof slots / sizeof slots[0], LINE = 64 };
+enum { LINE = 64 };
 
 /* Reads a decimal number up to most, with no leading zero, and steps past it; 0 if there is none. */
 static int read_number(const char **text, uint32_t most, uint32_t *number)
@@ -59,6 +68,26 @@ static int read_address(const char **text, uint32_t *address)
     return 1;
 }
 
+/* Says what is wrong on standard error, and shows the text; what a terminal might obey is escaped. */
+static void complain(const char *wrong, const char *text, size_t size)
+{
+    fprintf(stderr, "forward: %s: '", wrong);
+    for (size_t i = 0; i < size; i++) {
+        unsigned char c = (unsigned char)text[i];
+        fprintf(stderr, c < ' ' || c > '~' || c == '\\' ? "\\x%02x" : "%c", c);
+    }
+    fprintf(stderr, "'\n");
+}
+
+/* Whether a call was accepted; says on standard error why it was not. */
+static int accepted(const char *call, uint32_t refusal)
+{
+    if (refusal != GATEWAY_OK)
+        fprintf(stderr, "forward: %s: refused, number %u: %s\n", call, (unsigned)refusal,
+                gateway_refusal_text(refusal));
+    return refusal == GATEWAY_OK;
+}
+
 /* Adds a route given as text; says on standard error why it cannot be. */
 static int add_route(const char *route, const char *hop)
 {
@@ -66,33 +95,24 @@ static int add_route(const char *route, const char *hop)
     uint32_t prefix, length, to;
     if (!read_address(&at, &prefix) || !skip(&at, '/') || !read_number(&at, UINT32_MAX, &length) ||
         *at != '\0') {
-        fprintf(stderr, "forward: not a prefix: '%s'; write it as 10.0.0.0/8\n", route);
+        complain("not a prefix (10.0.0.0/8 is one)", route, strlen(route));
         return 0;
     }
     if (!read_number(&hop_at, UINT32_MAX, &to) || *hop_at != '\0') {
-        fprintf(stderr, "forward: %s: not a hop: '%s'; write a number up to 65535\n", route, hop);
+        complain("not a hop (a number up to 65535)", hop, strlen(hop));
         return 0;
     }
-    uint32_t refusal = gateway_refusal(gateway_add(K, D, E, S, A, B, C, counters, sizeof counters,
-                                                   slots, SLOTS_WORDS, prefix, length, to));
-    if (refusal != GATEWAY_OK) {
-        fprintf(stderr, "forward: %s %s: refused, number %u: %s\n", route, hop, (unsigned)refusal,
-                gateway_refusal_text(refusal));
-        return 0;
-    }
-    return 1;
+    return accepted(route, gateway_table_add(&table, prefix, length, to));
 }
 
 /* Writes what a lookup answers. None is refused where clear was accepted on the same table. */
 static void forward(uint32_t address)
 {
-    uint64_t answer = gateway_lookup(K, D, E, S, A, B, C, counters, sizeof counters,
-                                     (const uint8_t *)slots, sizeof slots, address);
-    if (gateway_found(answer))
-        printf("%u %u %u\n", (unsigned)gateway_hop(answer), (unsigned)gateway_length(answer),
-               (unsigned)gateway_probes(answer));
+    struct gateway_answer answer = gateway_table_lookup(&table, address);
+    if (answer.found)
+        printf("%u %u %u\n", (unsigned)answer.hop, (unsigned)answer.length, (unsigned)answer.probes);
     else
-        printf("none %u\n", (unsigned)gateway_probes(answer));
+        printf("none %u\n", (unsigned)answer.probes);
 }
 
 /* Reads a line without its end, cut to LINE characters; its true length, or -1 if there is no line. */
@@ -109,6 +129,13 @@ static long read_line(char line[LINE + 1])
     return length;
 }
 
+/* Reads an address that is the whole of a line. */
+static int read_line_address(const char *line, long length, uint32_t *address)
+{
+    const char *at = line;
+    return read_address(&at, address) && at - line == length;
+}
+
 int main(int argc, char **argv)
 {
     static const char *const worked[] = {"10.0.0.0/8", "7", "10.1.0.0/16", "9"};
@@ -120,13 +147,8 @@ int main(int argc, char **argv)
         fprintf(stderr, "usage: forward [PREFIX HOP]... <ADDRESSES\n");
         return 2;
     }
-    uint32_t refusal = gateway_refusal(
-        gateway_clear(K, D, E, S, A, B, C, counters, sizeof counters, slots, SLOTS_WORDS));
-    if (refusal != GATEWAY_OK) {
-        fprintf(stderr, "forward: clear: refused, number %u: %s\n", (unsigned)refusal,
-                gateway_refusal_text(refusal));
+    if (!accepted("clear", gateway_table_clear(&table)))
         return EXIT_FAILURE;
-    }
     for (int i = 1; i < argc; i += 2)
         if (!add_route(argv[i], argv[i + 1]))
             return EXIT_FAILURE;
@@ -135,12 +157,13 @@ int main(int argc, char **argv)
             return EXIT_FAILURE;
 
     for (unsigned long number = 1; (length = read_line(line)) >= 0; number++) {
-        const char *at = line;
         uint32_t address;
-        if (read_address(&at, &address) && at == line + length) {
+        if (read_line_address(line, length, &address)) {
             forward(address);
         } else {
-            fprintf(stderr, "forward: line %lu: not an address: '%s'\n", number, line);
+            char wrong[64];
+            snprintf(wrong, sizeof wrong, "line %lu: not an address", number);
+            complain(wrong, line, (size_t)(length < LINE ? length : LINE));
             status = EXIT_FAILURE;
         }
     }

@@ -2,20 +2,27 @@
  * The gateway table from C: longest-prefix match over counting filters, one to a prefix length,
  * and hashed buckets.
  *
- * A table is two lists of memory that the caller lends to each call, with the seven numbers of its
- * settings. Nothing is kept between calls but what is lent, and nothing is allocated. Lookups may
- * run at the same time; an update must run alone.
+ * A table is seven numbers, its settings, and two lists of memory that the caller lends. Nothing is
+ * kept between calls but what is lent, and nothing is allocated. This table holds ninety routes of
+ * each length with room to spare, in 288 KiB:
  *
- *     static uint8_t counters[GATEWAY_COUNTERS_BYTES(4)];
- *     static uint32_t slots[GATEWAY_SLOTS_WORDS(1, 2)];
+ *     enum { D = 10, E = 7, S = 8 };
  *
- * Settings, in the order in which every call takes them:
+ *     static uint8_t counters[GATEWAY_COUNTERS_BYTES(D)];
+ *     static uint32_t slots[GATEWAY_SLOTS_WORDS(E, S)];
+ *     static struct gateway_table table = {
+ *         .settings = {.k = 4, .d = D, .e = E, .s = S,
+ *                      .a = GATEWAY_GOOD_A, .b = GATEWAY_GOOD_B, .c = GATEWAY_GOOD_C},
+ *         .counters = counters, .counters_bytes = sizeof counters,
+ *         .slots = slots, .slots_words = sizeof slots / sizeof slots[0],
+ *     };
  *
- *     k        hash steps, 1 to 8
- *     d        a filter has 2^d counters, 4 to 11
- *     e        a length has 2^e buckets, 0 to 8
- *     s        slots in a bucket, 1 to 8
- *     a, b, c  multipliers, any numbers
+ * (Before C++20 the fields have no names in an initializer: set them one by one, so that a later
+ * field changes nothing.) Clear it first, and look at what each call answers:
+ *
+ *     uint32_t refusal = gateway_table_clear(&table);
+ *     if (refusal == GATEWAY_OK)
+ *         refusal = gateway_table_add(&table, 0x0a000000, 8, 7);
  *
  * An address or prefix is a 32-bit number with its first octet highest: 10.0.0.0 is 0x0a000000. A
  * route is a prefix, its length (0 to 32, 0 being the default route) and its next hop (0 to 65535).
@@ -23,7 +30,29 @@
  * Every call checks what it is given. The first of the GATEWAY_ refusals below whose condition holds
  * is answered, with zero for everything else, and no lent byte or word is changed. What no call can
  * check: each pointer must lead to as much memory as the size beside it says, counters and slots
- * must not overlap, and the words of an update must be aligned as uint32_t.
+ * must not overlap, the words of an update must be aligned as uint32_t, and a table must be asked and
+ * updated under the settings that it was cleared with. Lookups may run at the same time; an update
+ * must run alone.
+ *
+ * What is proved of these calls, in a C program's own terms, is stated in
+ * crates/c_promises/proofs/Promises.antt, and in specs/Numbers.antt there the functions that take an
+ * answer apart. The functions on a table stand on them and are tested.
+ *
+ * Choosing settings. A length has 2^e buckets of s slots, and a route goes into the one bucket that
+ * its prefix hashes to: once that is full the route is refused, however empty the others are. So a
+ * table takes far fewer routes than it has slots. For the most routes that any one length has:
+ *
+ *     routes    k   d  e  s     bytes    tables that take them all
+ *         10    4   7  3  8    20,484    all of 40,000 random ones
+ *         30    4   8  5  8    73,732    all
+ *         90    4  10  7  8   294,916    all
+ *        200    4  11  8  8   589,828    all
+ *        300    4  11  8  8   589,828    above 99.9 in 100
+ *        500    3  11  8  8   589,828    95 in 100
+ *
+ * Nothing larger can be set: 700 routes at one length are taken by every second table, and 1,000 by
+ * hardly any. docs/SETTINGS.md has the whole measurement, and says what to do about a refusal by
+ * GATEWAY_BUCKET_FULL or GATEWAY_COUNTER_FULL.
  *
  * The library is built for x86-64 alone, where a word lies in memory with its low byte first. So the
  * words that an update writes are the bytes that a lookup reads.
@@ -34,8 +63,22 @@
 #include <stddef.h>
 #include <stdint.h>
 
+#if defined(__BYTE_ORDER__) && __BYTE_ORDER__ != __ORDER_LITTLE_ENDIAN__
+#error "gateway.h: a word must lie in memory with its low byte first"
+#endif
+
 #ifdef __cplusplus
 extern "C" {
+#endif
+
+/* The version of this header, of its archive and of its pkg-config file; CHANGELOG.md tells them apart. */
+#define GATEWAY_VERSION "0.2.0"
+
+/* An answer that is not looked at is a refusal that nobody sees: the compiler warns of it. */
+#if defined(__GNUC__)
+#define GATEWAY_ANSWERS __attribute__((warn_unused_result))
+#else
+#define GATEWAY_ANSWERS
 #endif
 
 /* What a call refuses, in the order in which it checks. */
@@ -53,74 +96,129 @@ enum {
     GATEWAY_COUNTER_SHORT = 10  /* withdraw: a counter would pass below 0; the memory is damaged */
 };
 
-/* The sizes to lend, as constants for an array's size; d, e and s must be in their ranges. */
+/* A refusal in words. */
+static inline const char *gateway_refusal_text(uint32_t refusal)
+{
+    switch (refusal) {
+    case GATEWAY_OK: return "accepted";
+    case GATEWAY_BAD_SETTINGS: return "a setting is out of its range";
+    case GATEWAY_BAD_SIZE: return "counters or slots are not of the size that the settings ask";
+    case GATEWAY_BAD_LENGTH: return "the length is above 32";
+    case GATEWAY_HOST_BIT: return "a bit is set after the length";
+    case GATEWAY_BAD_HOP: return "the hop is above 65535";
+    case GATEWAY_STORED: return "the prefix is already stored";
+    case GATEWAY_NOT_STORED: return "the prefix is not stored";
+    case GATEWAY_BUCKET_FULL: return "every slot of the bucket is occupied";
+    case GATEWAY_COUNTER_FULL: return "a counter would pass 15";
+    case GATEWAY_COUNTER_SHORT: return "a counter would pass below 0";
+    default: return "unknown refusal";
+    }
+}
+
+/*
+ * The sizes to lend, as constants for an array's size; d, e and s must be in their ranges. The
+ * functions below them answer 0 where a setting is out of its range.
+ */
 #define GATEWAY_COUNTERS_BYTES(d) ((size_t)32 << (d))
 #define GATEWAY_SLOTS_WORDS(e, s) (((size_t)64 << (e)) * (s) + 1)
+#define GATEWAY_SLOTS_BYTES(e, s) (4 * GATEWAY_SLOTS_WORDS(e, s))
+#define GATEWAY_TABLE_BYTES(d, e, s) (GATEWAY_COUNTERS_BYTES(d) + GATEWAY_SLOTS_BYTES(e, s))
 
-/* How many bytes of counters to lend; 0 if d is out of its range. */
 static inline size_t gateway_counters_bytes(uint32_t d)
 {
     return d < 4 || d > 11 ? 0 : GATEWAY_COUNTERS_BYTES(d);
 }
 
-/* How many words of slots to lend to an update; 0 if e or s is out of its range. */
 static inline size_t gateway_slots_words(uint32_t e, uint32_t s)
 {
     return e > 8 || s < 1 || s > 8 ? 0 : GATEWAY_SLOTS_WORDS(e, s);
 }
 
-/* The same slots in bytes, as a lookup takes them. */
 static inline size_t gateway_slots_bytes(uint32_t e, uint32_t s)
 {
     return 4 * gateway_slots_words(e, s);
 }
 
 /*
- * Updates. Each answers a number of which only gateway_refusal is ever other than zero.
+ * Multipliers that serve: odd, with bits that follow no pattern, high and low. Buckets and filter
+ * positions are the top bits of products with the prefix; 1 as c would put all of 10.0.0.0/8 into one
+ * bucket.
  */
+#define GATEWAY_GOOD_A 0xc2b2ae3du
+#define GATEWAY_GOOD_B 0x85ebca77u
+#define GATEWAY_GOOD_C 0x9e3779b1u
 
-/* Empties the table: zero in every byte and word. Lent memory is a table from here on. */
-uint64_t gateway_clear(uint32_t k, uint32_t d, uint32_t e, uint32_t s, uint32_t a, uint32_t b,
-                       uint32_t c, uint8_t *counters, size_t counters_bytes, uint32_t *slots,
-                       size_t slots_words);
+struct gateway_settings {
+    uint32_t k;       /* hash steps, 1 to 8 */
+    uint32_t d;       /* a filter has 2^d counters, 4 to 11 */
+    uint32_t e;       /* a length has 2^e buckets, 0 to 8 */
+    uint32_t s;       /* slots in a bucket, 1 to 8 */
+    uint32_t a, b, c; /* multipliers, any numbers: a and b of the filters, c of the buckets */
+};
 
-/* Stores a route. Its prefix must not be stored yet. */
-uint64_t gateway_add(uint32_t k, uint32_t d, uint32_t e, uint32_t s, uint32_t a, uint32_t b,
-                     uint32_t c, uint8_t *counters, size_t counters_bytes, uint32_t *slots,
-                     size_t slots_words, uint32_t prefix, uint32_t length, uint32_t hop);
+struct gateway_table {
+    struct gateway_settings settings;
+    uint8_t *counters;
+    size_t counters_bytes; /* exactly GATEWAY_COUNTERS_BYTES(d) */
+    uint32_t *slots;
+    size_t slots_words; /* exactly GATEWAY_SLOTS_WORDS(e, s) */
+};
 
-/* Takes a stored route out. */
-uint64_t gateway_withdraw(uint32_t k, uint32_t d, uint32_t e, uint32_t s, uint32_t a, uint32_t b,
-                          uint32_t c, uint8_t *counters, size_t counters_bytes, uint32_t *slots,
-                          size_t slots_words, uint32_t prefix, uint32_t length);
+/* What a lookup answers. If it is refused, all else is 0; if nothing matches, found, hop and length. */
+struct gateway_answer {
+    uint32_t refusal; /* GATEWAY_OK, GATEWAY_BAD_SETTINGS or GATEWAY_BAD_SIZE */
+    uint32_t found;   /* 1 if a route matches, else 0 */
+    uint32_t hop;     /* of the longest route that matches */
+    uint32_t length;  /* of the same; 0 is the default's */
+    uint32_t probes;  /* how many buckets were searched */
+};
 
-/* Gives a stored route a new hop. */
-uint64_t gateway_change(uint32_t k, uint32_t d, uint32_t e, uint32_t s, uint32_t a, uint32_t b,
-                        uint32_t c, uint8_t *counters, size_t counters_bytes, uint32_t *slots,
-                        size_t slots_words, uint32_t prefix, uint32_t length, uint32_t hop);
+/* What a match vector answers. */
+struct gateway_claims {
+    uint32_t refusal; /* as above */
+    uint32_t vector;  /* bit L - 1 is set exactly if the filter of length L claims the address */
+};
 
 /*
- * Questions. They take the slots as bytes, four to a word, low byte first: on x86-64 the words
- * themselves, as (const uint8_t *)slots with gateway_slots_bytes. They need no alignment.
+ * The exported functions. A program calls those on a table, at the end, which stand on these. Each of
+ * these answers one 64-bit number whose parts are read by the functions that follow: a refusal begins
+ * at bit 48, so the answer is not itself a GATEWAY_ number, and an int would lose it.
  */
 
-/*
- * The next hop of the longest stored route that matches an address, the default's if no other does.
- * Read the answer with gateway_refusal, gateway_found, gateway_hop, gateway_length and
- * gateway_probes. If nothing matches, found, hop and length are 0 and the probes made are told.
- */
-uint64_t gateway_lookup(uint32_t k, uint32_t d, uint32_t e, uint32_t s, uint32_t a, uint32_t b,
-                        uint32_t c, const uint8_t *counters, size_t counters_bytes,
-                        const uint8_t *slots, size_t slots_bytes, uint32_t address);
+/* Updates. Of their answers only gateway_refusal is ever other than zero. */
+GATEWAY_ANSWERS uint64_t gateway_clear(uint32_t k, uint32_t d, uint32_t e, uint32_t s, uint32_t a,
+                                       uint32_t b, uint32_t c, uint8_t *counters,
+                                       size_t counters_bytes, uint32_t *slots, size_t slots_words);
+
+GATEWAY_ANSWERS uint64_t gateway_add(uint32_t k, uint32_t d, uint32_t e, uint32_t s, uint32_t a,
+                                     uint32_t b, uint32_t c, uint8_t *counters, size_t counters_bytes,
+                                     uint32_t *slots, size_t slots_words, uint32_t prefix,
+                                     uint32_t length, uint32_t hop);
+
+GATEWAY_ANSWERS uint64_t gateway_withdraw(uint32_t k, uint32_t d, uint32_t e, uint32_t s, uint32_t a,
+                                          uint32_t b, uint32_t c, uint8_t *counters,
+                                          size_t counters_bytes, uint32_t *slots, size_t slots_words,
+                                          uint32_t prefix, uint32_t length);
+
+GATEWAY_ANSWERS uint64_t gateway_change(uint32_t k, uint32_t d, uint32_t e, uint32_t s, uint32_t a,
+                                        uint32_t b, uint32_t c, uint8_t *counters,
+                                        size_t counters_bytes, uint32_t *slots, size_t slots_words,
+                                        uint32_t prefix, uint32_t length, uint32_t hop);
 
 /*
- * The lengths whose filters claim an address. Read the answer with gateway_refusal and
- * gateway_vector.
+ * Questions. They take the slots by the byte, a word's lowest byte first and on no boundary, so that a
+ * table can be asked that came as bytes: from a file, say. On x86-64 words in memory are such bytes.
  */
-uint64_t gateway_match_vector(uint32_t k, uint32_t d, uint32_t e, uint32_t s, uint32_t a,
-                              uint32_t b, uint32_t c, const uint8_t *counters,
-                              size_t counters_bytes, const uint8_t *slots, size_t slots_bytes,
-                              uint32_t address);
+GATEWAY_ANSWERS uint64_t gateway_lookup(uint32_t k, uint32_t d, uint32_t e, uint32_t s, uint32_t a,
+                                        uint32_t b, uint32_t c, const uint8_t *counters,
+                                        size_t counters_bytes, const uint8_t *slots,
+                                        size_t slots_bytes, uint32_t address);
+
+GATEWAY_ANSWERS uint64_t gateway_match_vector(uint32_t k, uint32_t d, uint32_t e, uint32_t s,
+                                              uint32_t a, uint32_t b, uint32_t c,
+                                              const uint8_t *counters, size_t counters_bytes,
+                                              const uint8_t *slots, size_t slots_bytes,
+                                              uint32_t address);
 
 /* GATEWAY_OK, or why the call was refused; of any call's answer. */
 static inline uint32_t gateway_refusal(uint64_t answer)
@@ -152,30 +250,82 @@ static inline uint32_t gateway_probes(uint64_t answer)
     return (uint32_t)(answer & 0xff);
 }
 
-/* Bit L - 1 is set exactly if the filter of length L claims the address; of a match vector's answer. */
+/* The vector; of a match vector's answer. */
 static inline uint32_t gateway_vector(uint64_t answer)
 {
     return (uint32_t)(answer & 0xffffffff);
 }
 
-/* A refusal in words. */
-static inline const char *gateway_refusal_text(uint32_t refusal)
+/*
+ * The calls on a table. They hand its parts on and take the answer apart, which costs nothing. The
+ * refusal that they give is GATEWAY_OK or another of the numbers above, as it is.
+ */
+
+#define GATEWAY_SETTINGS_OF(table)                                                                 \
+    (table)->settings.k, (table)->settings.d, (table)->settings.e, (table)->settings.s,            \
+        (table)->settings.a, (table)->settings.b, (table)->settings.c
+#define GATEWAY_WORDS_OF(table)                                                                    \
+    (table)->counters, (table)->counters_bytes, (table)->slots, (table)->slots_words
+#define GATEWAY_BYTES_OF(table)                                                                    \
+    (table)->counters, (table)->counters_bytes, (const uint8_t *)(table)->slots,                   \
+        4 * (table)->slots_words
+
+/* Empties the table: zero in every byte and word. Lent memory is a table from here on. */
+GATEWAY_ANSWERS static inline uint32_t gateway_table_clear(struct gateway_table *table)
 {
-    switch (refusal) {
-    case GATEWAY_OK: return "accepted";
-    case GATEWAY_BAD_SETTINGS: return "a setting is out of its range";
-    case GATEWAY_BAD_SIZE: return "counters or slots are not of the size that the settings ask";
-    case GATEWAY_BAD_LENGTH: return "the length is above 32";
-    case GATEWAY_HOST_BIT: return "a bit is set after the length";
-    case GATEWAY_BAD_HOP: return "the hop is above 65535";
-    case GATEWAY_STORED: return "the prefix is already stored";
-    case GATEWAY_NOT_STORED: return "the prefix is not stored";
-    case GATEWAY_BUCKET_FULL: return "every slot of the bucket is occupied";
-    case GATEWAY_COUNTER_FULL: return "a counter would pass 15";
-    case GATEWAY_COUNTER_SHORT: return "a counter would pass below 0";
-    default: return "unknown refusal";
-    }
+    return gateway_refusal(gateway_clear(GATEWAY_SETTINGS_OF(table), GATEWAY_WORDS_OF(table)));
 }
+
+/* Stores a route. Its prefix must not be stored yet. */
+GATEWAY_ANSWERS static inline uint32_t gateway_table_add(struct gateway_table *table, uint32_t prefix,
+                                                         uint32_t length, uint32_t hop)
+{
+    return gateway_refusal(
+        gateway_add(GATEWAY_SETTINGS_OF(table), GATEWAY_WORDS_OF(table), prefix, length, hop));
+}
+
+/* Takes a stored route out. */
+GATEWAY_ANSWERS static inline uint32_t gateway_table_withdraw(struct gateway_table *table,
+                                                              uint32_t prefix, uint32_t length)
+{
+    return gateway_refusal(
+        gateway_withdraw(GATEWAY_SETTINGS_OF(table), GATEWAY_WORDS_OF(table), prefix, length));
+}
+
+/* Gives a stored route a new hop. */
+GATEWAY_ANSWERS static inline uint32_t gateway_table_change(struct gateway_table *table,
+                                                            uint32_t prefix, uint32_t length,
+                                                            uint32_t hop)
+{
+    return gateway_refusal(
+        gateway_change(GATEWAY_SETTINGS_OF(table), GATEWAY_WORDS_OF(table), prefix, length, hop));
+}
+
+/* The next hop of the longest stored route that matches an address, the default's if no other does. */
+GATEWAY_ANSWERS static inline struct gateway_answer
+gateway_table_lookup(const struct gateway_table *table, uint32_t address)
+{
+    const uint64_t number =
+        gateway_lookup(GATEWAY_SETTINGS_OF(table), GATEWAY_BYTES_OF(table), address);
+    const struct gateway_answer answer = {gateway_refusal(number), (uint32_t)gateway_found(number),
+                                          gateway_hop(number), gateway_length(number),
+                                          gateway_probes(number)};
+    return answer;
+}
+
+/* The lengths whose filters claim an address. */
+GATEWAY_ANSWERS static inline struct gateway_claims
+gateway_table_match_vector(const struct gateway_table *table, uint32_t address)
+{
+    const uint64_t number =
+        gateway_match_vector(GATEWAY_SETTINGS_OF(table), GATEWAY_BYTES_OF(table), address);
+    const struct gateway_claims claims = {gateway_refusal(number), gateway_vector(number)};
+    return claims;
+}
+
+#undef GATEWAY_SETTINGS_OF
+#undef GATEWAY_WORDS_OF
+#undef GATEWAY_BYTES_OF
 
 #ifdef __cplusplus
 }

@@ -16,15 +16,15 @@ static void check(int right, const char *what)
 
 #define CHECK(right) check(right, #right)
 
-static uint8_t counters[GATEWAY_COUNTERS_BYTES(4)];
-static uint32_t slots[GATEWAY_SLOTS_WORDS(1, 2)];
-
 int main(void)
 {
     /* Settings T: 512 counters, 257 words. */
+    uint8_t counters[GATEWAY_COUNTERS_BYTES(4)], both[GATEWAY_TABLE_BYTES(4, 1, 2)];
+    uint32_t slots[GATEWAY_SLOTS_WORDS(1, 2)];
     CHECK(sizeof counters == 512 && gateway_counters_bytes(4) == 512);
     CHECK(sizeof slots == 4 * 257 && gateway_slots_words(1, 2) == 257);
-    CHECK(gateway_slots_bytes(1, 2) == sizeof slots);
+    CHECK(gateway_slots_bytes(1, 2) == sizeof slots && GATEWAY_SLOTS_BYTES(1, 2) == sizeof slots);
+    CHECK(sizeof both == sizeof counters + sizeof slots);
 
     CHECK(gateway_counters_bytes(11) == 65536 && gateway_slots_words(8, 8) == 131073);
     CHECK(gateway_slots_words(0, 1) == 65);

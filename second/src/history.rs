@@ -1,9 +1,9 @@
 //! Random histories. A seed and a number fix a history, so that a failing one can be replayed.
 
+use crate::calls::{Call, Lent, Settings};
 use crate::library::{Area, Library, MARGIN};
 use crate::pair::{Answer, Difference, Pair};
 use crate::random::Random;
-use crate::calls::{Call, Lent, Settings};
 use crate::routes::Routes;
 use crate::rules;
 use crate::slips::Slip;
@@ -328,7 +328,7 @@ impl History<'_> {
             0 => t.k = self.random.within(1, 8),
             1 => t.a = multiplier(&mut self.random),
             2 => t.c = multiplier(&mut self.random),
-            _ if t.s % 2 == 0 && t.e < 8 => (t.e, t.s) = (t.e + 1, t.s / 2),
+            _ if t.s & 1 == 0 && t.e < 8 => (t.e, t.s) = (t.e + 1, t.s / 2),
             _ if t.s < 5 && t.e > 0 => (t.e, t.s) = (t.e - 1, t.s * 2),
             _ => t.b = multiplier(&mut self.random),
         }

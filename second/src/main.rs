@@ -1,6 +1,6 @@
-//! The second program: the table's rules written again, from docs/TABLE.md, and held
-//! against libgateway.a call by call; and a reader of its own for the lines of the text program. It
-//! shares no code with either.
+//! The second program: the table's rules and the reader of lines, written anew by someone who had the
+//! text of the rules and had seen neither crates/ nor docs/, and held against libgateway.a, call by call,
+//! and against the text program. No code is shared.
 
 /// Writes a line to standard output. If nobody reads it any more, there is no more to do.
 macro_rules! say {
@@ -12,8 +12,10 @@ macro_rules! say {
 }
 
 mod calls;
+mod cuts;
 mod history;
 mod inputs;
+mod interrupt;
 mod library;
 mod line_slips;
 mod lines;
@@ -44,6 +46,7 @@ usage: second [--seed N] [--calls N | --seconds N]   random histories, 500000 ca
        second --lines [--seed N] [--count N]         random lines to the text program, 6000 unless told
        second --lines --seed N --history M [--show]  one input of them again; --show tells each line
        second --lines --slips [--seed N]             as above, with the rules of the reader of lines
+       second --cut FILE -- COMMAND [WORD..]         writes what a program answers to a file, however it is cut
        second --answer                               answers standard input as the text program does
        second --mix N [--seed N]                     writes so many lines for it, most of them readable
 
@@ -73,6 +76,7 @@ struct Options {
     slips: bool,
     lines: bool,
     answer: bool,
+    cut: Option<String>,
     command: Option<Vec<String>>,
 }
 
@@ -96,6 +100,10 @@ fn options() -> Result<Options, String> {
                 }
                 continue;
             }
+            "--cut" => {
+                options.cut = Some(words.next().ok_or("--cut needs a file")?);
+                continue;
+            }
             "--" => {
                 options.command = Some(words.by_ref().collect());
                 continue;
@@ -107,7 +115,11 @@ fn options() -> Result<Options, String> {
             _ => return Err(format!("unknown word '{word}'")),
         };
         let value = words.next().ok_or(format!("{word} needs a number"))?;
-        *into = Some(value.parse().map_err(|_| format!("{word}: not a number: '{value}'"))?);
+        let number = value.parse().map_err(|_| format!("{word}: not a number: '{value}'"))?;
+        if number == 0 && ["--calls", "--seconds", "--count"].contains(&word.as_str()) {
+            return Err(format!("{word} 0 would compare nothing"));
+        }
+        *into = Some(number);
     }
     Ok(options)
 }
@@ -116,13 +128,15 @@ fn main() -> ExitCode {
     let options = match options() {
         Ok(options) => options,
         Err(error) => {
-            eprintln!("second: {error}\n{USAGE}");
+            eprintln!("second: {error}; second --help tells what there is");
             return ExitCode::from(2);
         }
     };
     let seed = options.seed.unwrap_or_else(clock);
     let passed = if options.answer {
         done(text::answer())
+    } else if let Some(file) = options.cut {
+        done(cuts::answers(&file, &options.command.unwrap_or_default()))
     } else if let Some(count) = options.mix {
         done(text::mix(seed, count))
     } else if options.lines {
@@ -177,9 +191,10 @@ fn clock() -> u64 {
     now.map_or(1, |since| since.as_micros() as u64)
 }
 
-/// The program `host` stands beside this one.
+/// The program `host` stands beside this one. Ctrl-C is for this one alone.
 fn start() -> io::Result<Library> {
-    Library::start(&std::env::current_exe()?.with_file_name("host"))
+    let host = std::env::current_exe()?.with_file_name("host");
+    interrupt::ignored(|| Library::start(&host))
 }
 
 /// Runs one history, and says how it went.
@@ -221,19 +236,20 @@ fn replay(library: &mut Library, seed: u64, history: u64, show: bool) -> bool {
     held
 }
 
-/// Runs histories until there were so many calls, or so many seconds have passed.
+/// Runs histories until there were so many calls, so many seconds have passed, or Ctrl-C ends them.
 fn compare(library: &mut Library, seed: u64, calls: Option<u64>, seconds: Option<u64>) -> bool {
     let calls = calls.unwrap_or(if seconds.is_some() { u64::MAX } else { 500_000 });
     let seconds = Duration::from_secs(seconds.unwrap_or(u64::MAX));
     let start = Instant::now();
     let mut told = start;
     let mut tally = Tally::default();
+    interrupt::note();
     say!("seed {seed}");
     if let Err(failure) = worked::run(library) {
         say!("second: DIFFERENCE in a worked case, {failure}");
         return false;
     }
-    while tally.calls() < calls && start.elapsed() < seconds {
+    while tally.calls() < calls && start.elapsed() < seconds && !interrupt::noted() {
         if !holds(library, seed, tally.histories, false, &mut tally) {
             return false;
         }

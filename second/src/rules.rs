@@ -675,7 +675,7 @@ impl Table<'_> {
     fn claimed(&self, length: u32, p: u32) -> bool {
         let counts = |j: &usize| match self.slip {
             Some(Slip::VectorAboveOne) => self.counter(length, *j) > 1,
-            Some(Slip::VectorNibble) => self.counter(length, *j) % 16 != 0,
+            Some(Slip::VectorNibble) => self.counter(length, *j) & 15 != 0,
             _ => self.counter(length, *j) != 0,
         };
         let steps = self.steps(p);

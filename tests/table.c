@@ -1,0 +1,111 @@
+/*
+ * The calls of gateway.h on a table, over the archive: worked cases of docs/TABLE.md, every refusal
+ * as the plain number that it is, and what docs/SETTINGS.md says of ninety routes.
+ */
+#include <gateway.h>
+
+#include <stdio.h>
+#include <stdlib.h>
+
+static int wrong;
+
+static void check(int right, const char *what)
+{
+    if (!right) {
+        fprintf(stderr, "tests/table.c: %s\n", what);
+        wrong = 1;
+    }
+}
+
+#define CHECK(right) check(right, #right)
+
+static int is(struct gateway_answer answer, uint32_t found, uint32_t hop, uint32_t length, uint32_t probes)
+{
+    return answer.refusal == GATEWAY_OK && answer.found == found && answer.hop == hop &&
+           answer.length == length && answer.probes == probes;
+}
+
+static int is_refused(struct gateway_answer answer, uint32_t refusal)
+{
+    return answer.refusal == refusal && answer.found == 0 && answer.hop == 0 && answer.length == 0 &&
+           answer.probes == 0;
+}
+
+static uint8_t counters[GATEWAY_COUNTERS_BYTES(11)];
+static uint32_t slots[GATEWAY_SLOTS_WORDS(8, 8)];
+
+/* A cleared table in as much of that memory as its settings ask. */
+static struct gateway_table cleared(uint32_t k, uint32_t d, uint32_t e, uint32_t s, uint32_t a, uint32_t b,
+                                    uint32_t c)
+{
+    struct gateway_table table = {{k, d, e, s, a, b, c}, counters, gateway_counters_bytes(d), slots,
+                                  gateway_slots_words(e, s)};
+    CHECK(gateway_table_clear(&table) == GATEWAY_OK);
+    return table;
+}
+
+static void run_worked(void)
+{
+    struct gateway_table table = cleared(2, 4, 1, 2, 1, 2, 1);
+    CHECK(gateway_table_add(&table, 0x0a000000, 8, 7) == GATEWAY_OK);
+    CHECK(is(gateway_table_lookup(&table, 0x08010203), 0, 0, 0, 1));
+    CHECK(gateway_table_match_vector(&table, 0x08010203).vector == 128);
+    CHECK(gateway_table_add(&table, 0x0a010000, 16, 9) == GATEWAY_OK);
+    CHECK(is(gateway_table_lookup(&table, 0x0a010203), 1, 9, 16, 1));
+    CHECK(is(gateway_table_lookup(&table, 0x0a020203), 1, 7, 8, 2));
+    CHECK(gateway_table_match_vector(&table, 0x0a020203).vector == 32896);
+    CHECK(gateway_table_add(&table, 0, 0, 3) == GATEWAY_OK);
+    CHECK(is(gateway_table_lookup(&table, 0x0b000001), 1, 3, 0, 0));
+    CHECK(gateway_table_change(&table, 0x0a010000, 16, 65535) == GATEWAY_OK);
+    CHECK(is(gateway_table_lookup(&table, 0x0a010203), 1, 65535, 16, 1));
+    CHECK(gateway_table_withdraw(&table, 0x0a010000, 16) == GATEWAY_OK);
+    CHECK(is(gateway_table_lookup(&table, 0x0a010203), 1, 7, 8, 1));
+}
+
+static void run_refusals(void)
+{
+    struct gateway_table table = cleared(5, 4, 0, 4, 0, 0, 0), other = table;
+    int refusal = (int)gateway_table_add(&table, 0x0a000001, 8, 7);
+    CHECK(refusal == GATEWAY_HOST_BIT);
+    CHECK(gateway_table_add(&table, 0x0a000000, 33, 7) == GATEWAY_BAD_LENGTH);
+    CHECK(gateway_table_add(&table, 0x0a000000, 8, 65536) == GATEWAY_BAD_HOP);
+    CHECK(gateway_table_withdraw(&table, 0x0a000000, 8) == GATEWAY_NOT_STORED);
+    CHECK(gateway_table_change(&table, 0x0a000000, 8, 7) == GATEWAY_NOT_STORED);
+    for (uint32_t host = 1; host <= 3; host++)
+        CHECK(gateway_table_add(&table, host, 32, 7) == GATEWAY_OK);
+    CHECK(gateway_table_add(&table, 3, 32, 7) == GATEWAY_STORED);
+    CHECK(gateway_table_add(&table, 4, 32, 7) == GATEWAY_COUNTER_FULL);
+    counters[GATEWAY_COUNTERS_BYTES(4) - 16] = 0;
+    CHECK(gateway_table_withdraw(&table, 3, 32) == GATEWAY_COUNTER_SHORT);
+
+    other.slots_words--;
+    CHECK(gateway_table_clear(&other) == GATEWAY_BAD_SIZE);
+    CHECK(is_refused(gateway_table_lookup(&other, 0), GATEWAY_BAD_SIZE));
+    CHECK(gateway_table_match_vector(&other, 0).refusal == GATEWAY_BAD_SIZE);
+    other.settings.k = 9;
+    CHECK(gateway_table_clear(&other) == GATEWAY_BAD_SETTINGS);
+    CHECK(is_refused(gateway_table_lookup(&other, 0), GATEWAY_BAD_SETTINGS));
+    CHECK(gateway_table_match_vector(&other, 0).refusal == GATEWAY_BAD_SETTINGS);
+}
+
+/* How many of the routes 10.0.0.0/24 to 10.0.89.0/24 are stored. */
+static uint32_t ninety(struct gateway_table table, uint32_t refusal)
+{
+    uint32_t stored = 0;
+    for (uint32_t i = 0; i < 90; i++) {
+        uint32_t given = gateway_table_add(&table, 0x0a000000 + (i << 8), 24, i);
+        CHECK(given == GATEWAY_OK || given == refusal);
+        stored += given == GATEWAY_OK;
+    }
+    return stored;
+}
+
+int main(void)
+{
+    run_worked();
+    run_refusals();
+    CHECK(ninety(cleared(4, 10, 7, 8, GATEWAY_GOOD_A, GATEWAY_GOOD_B, GATEWAY_GOOD_C), GATEWAY_OK) == 90);
+    CHECK(ninety(cleared(4, 11, 8, 8, 1, 2, 1), GATEWAY_BUCKET_FULL) == 8);
+    CHECK(ninety(cleared(4, 11, 8, 8, 0, 0, 0), GATEWAY_COUNTER_FULL) == 3);
+    return wrong ? EXIT_FAILURE : EXIT_SUCCESS;
+}
