@@ -76,7 +76,7 @@ uninstall:
 settings: target/settings
 	@target/settings $(SEED)
 
-target/settings: bench/settings.c
+target/settings: bench/settings.c bench/random.h
 	@mkdir -p target
 	@$(NATIVE_CC) $(WARNINGS) -O2 -o $@ bench/settings.c
 
@@ -113,7 +113,7 @@ bench: target/bench target/second
 	@echo
 	@bench/lines
 
-target/bench: bench/bench.c bench/table.c bench/table.h include/gateway.h $(MEASURED)
+target/bench: bench/bench.c bench/table.c bench/table.h bench/random.h include/gateway.h $(MEASURED)
 	$(NATIVE_CC) $(WARNINGS) -O3 -Iinclude -Ibench -o $@ bench/bench.c bench/table.c $(MEASURED)
 
 clean:

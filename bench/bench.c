@@ -6,6 +6,7 @@
  */
 #define _POSIX_C_SOURCE 199309L
 
+#include "random.h"
 #include "table.h"
 
 #include <gateway.h>
@@ -49,21 +50,6 @@ static const uint32_t share[33] = {
 static struct route routes[MOST_ROUTES], stored[MOST_ROUTES];
 static uint32_t addresses[ADDRESSES], turns[PAIRS];
 static uint64_t by_hand[ADDRESSES], in_turn[ADDRESSES], proved[ADDRESSES];
-
-static uint64_t state = 1;
-
-static uint32_t random_word(void)
-{
-    uint64_t z = state += 0x9e3779b97f4a7c15u;
-    z = (z ^ z >> 30) * 0xbf58476d1ce4e5b9u;
-    z = (z ^ z >> 27) * 0x94d049bb133111ebu;
-    return (uint32_t)((z ^ z >> 31) >> 32);
-}
-
-static uint32_t random_below(uint32_t n)
-{
-    return (uint32_t)((uint64_t)random_word() * n >> 32);
-}
 
 static uint32_t random_length(void)
 {

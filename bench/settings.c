@@ -7,6 +7,8 @@
  * The rules are modelled here once more, as plainly as C allows and without the library. A length has
  * a filter and buckets of its own, so a table is modelled by the lengths that have routes.
  */
+#include "random.h"
+
 #include <stdint.h>
 #include <stdio.h>
 #include <stdlib.h>
@@ -30,21 +32,6 @@ enum { ACCEPTED = 0, STORED = 6, BUCKET_FULL = 8, COUNTER_FULL = 9 };
 
 /* The multipliers that gateway.h offers. */
 #define GOOD 0xc2b2ae3d, 0x85ebca77, 0x9e3779b1
-
-static uint64_t state;
-
-static uint32_t random_word(void)
-{
-    uint64_t z = state += 0x9e3779b97f4a7c15u;
-    z = (z ^ z >> 30) * 0xbf58476d1ce4e5b9u;
-    z = (z ^ z >> 27) * 0x94d049bb133111ebu;
-    return (uint32_t)((z ^ z >> 31) >> 32);
-}
-
-static uint32_t random_below(uint32_t n)
-{
-    return (uint32_t)((uint64_t)random_word() * n >> 32);
-}
 
 /* ---- the rules, for lengths from 1 up */
 
@@ -441,7 +428,7 @@ int main(int argc, char **argv)
         fprintf(stderr, "usage: settings [SEED]\n");
         return 2;
     }
-    state = seed;
+    random_state = seed;
     printf("seed %llu\n", seed);
     print_ready();
     print_buckets();
