@@ -1,6 +1,7 @@
 //! Rules of the table got wrong on purpose, one at a time, so that a comparison can be seen to notice.
 //!
-//! Those named `Paper…` bend `Routes`; all others bend `answer`. Each name leaves the other side right.
+//! Those named `Paper…` bend `Routes` and those named `List…` bend `answer_list`; all others bend `answer`,
+//! and a list where it answers by a lookup. Each name leaves the other sides right.
 
 use super::calls::Call;
 
@@ -269,6 +270,36 @@ slips! {
     PaperCountedOnce: "paper: a route counts one, not K",
     PaperCountedDistinct: "paper: a doubled position counts once",
     PaperCountedAll: "paper: routes of every length are counted",
+    // Lists of addresses: which refusal, and when.
+    ListBeforeSettings: "list: 18 is asked before 1 and 2",
+    ListBeforeSize: "list: 18 is asked before 2",
+    ListEmptyUnasked: "list: 1 and 2 are not asked when there is no address",
+    ListOddGivesTwo: "list: addresses that are not whole words give 2",
+    ListRefusalBare: "list: the refusal is given as it is, not times 2^48",
+    ListGivesCount: "list: success gives the number of addresses, not 0",
+    // Lists of addresses: sizes.
+    ListResultsLonger: "list: more room for results than asked passes",
+    ListResultsShorter: "list: less room for results than asked passes and is filled",
+    ListResultsRounded: "list: odd bytes at the end of the results pass",
+    ListOddPasses: "list: odd bytes at the end of the addresses pass, with fourfold bytes of results",
+    ListOddCutOff: "list: odd bytes at the end of the addresses pass, with results for the whole ones",
+    ListEmptyRefused: "list: no address at all is refused as 18",
+    // Lists of addresses: refused calls that had begun to write.
+    ListRefusedZeroed: "list: a refused call writes zeros to the results",
+    ListLate: "list: 18 leaves the addresses answered",
+    // Lists of addresses: words and bytes.
+    ListAddressesHighFirst: "list: addresses are read high byte first",
+    ListResultsHighFirst: "list: results are written high byte first",
+    ListHighBytesLeft: "list: the two high bytes of every result word stay as they were",
+    ListProbesBeforeLength: "list: the probes lie before the length",
+    ListColumns: "list: all founds lie together, then all hops, lengths and probes",
+    ListNoneRouteLeft: "list: none leaves the words of hop and length as they were",
+    // Lists of addresses: which are answered, and with what.
+    ListLastMissed: "list: the last address is not answered",
+    ListStopsAtNone: "list: no address after the first none is answered",
+    ListOneBehind: "list: each address but the first has the answer of the one before it",
+    ListProbesRunOn: "list: the probes of the addresses before are counted too",
+    ListNoneKeepsRoute: "list: none has the hop and length of the result before it",
 }
 
 /// Two refusals that have changed places in the order; 0 and 0 when it is right.
