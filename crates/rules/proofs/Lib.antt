@@ -2,6 +2,7 @@
 pub mod Answers
 pub mod Found
 pub mod Levels
+pub mod Lists
 pub mod Lowest
 pub mod Marks
 pub mod Members

@@ -9,7 +9,7 @@ use lib.Dec.{ltb, eqb}
 use lib.ListN.{length}
 use borrow.Author.Tests.{ltb-false, le-ltb, eqb-true, eq-eqb, ne-eqb, not-false}
 use Rattle.rules.specs.declared.Settings.{Settings}
-use Rattle.rules.specs.Table.{Memory, lent, in-range, counters-size, slots-size, prefix, stored, full, passes-15, runs-short, refuse, from-1, sized, loose, memory-refusal, route-refusal, add-refusal, withdraw-refusal, change-refusal, update}
+use Rattle.rules.specs.Table.{Memory, lent, in-range, counters-size, slots-size, prefix, stored, full, passes-15, runs-short, refuse, from-1, sized, loose, memory-refusal, route-refusal, add-refusal, withdraw-refusal, change-refusal, fourfold, list-refusal, update}
 use Rattle.rules.specs.Ready.{Ready, Counters, Slots}
 use Rattle.rules.proofs.Members.{both}
 use Rattle.rules.proofs.Prefixes.{loose-false}
@@ -43,6 +43,12 @@ route-passing t m L p = route-then t m L p none-passing
 
 pub hop-passing : (t : Settings) (m : Memory) (L p hop : ℕ) → Passing (λ after. route-refusal t m L p (refuse (ltb 65535 hop) 5 after))
 hop-passing t m L p hop = route-then t m L p (more-passing (ltb 65535 hop) 4 none-passing)
+
+pub list-passing : (t : Settings) (m : Memory) (addresses results : ℕ) → Passing (list-refusal t m addresses results)
+unfolding list-refusal memory-refusal
+list-passing t m addresses results =
+    more-passing (not (in-range t)) 0
+    (more-passing (not (sized t m)) 1 (more-passing (not (fourfold addresses results)) 17 none-passing))
 
 -- a check that passed: its condition does not hold, and those after it passed
 pub passed : (bad : Bool) (number after : ℕ) → refuse bad (suc number) after ≡ 0 → (bad ≡ false) × (after ≡ 0)

@@ -8,7 +8,7 @@ use lib.ListN.{getD, length, replicate, set}
 use Rattle.rules.specs.declared.Settings.{Settings}
 use Rattle.rules.specs.declared.Answer.{Answer}
 use Rattle.rules.specs.Tools.{within, all, any, count, those, lowest}
-use Rattle.rules.specs.Table.{in-range, wrap, prefix, steps, filter-bits, positions, bucket, Memory, counters-size, filter-start, counter-place, counter-places, slots-size, slot-number, prefix-word, mark-word, default-word, occupied, mark-of, hop-of, mark-at, prefix-at, default-mark, holds, free, held, vacant, is-some, stored, refuse, sized, loose, full, hits, passes-15, runs-short, from-1, memory-refusal, route-refusal, add-refusal, withdraw-refusal, change-refusal, Update, update, zeroed, step-each, with-slot, with-default, with-found, added, withdrawn, changed, clear, add, withdraw, change, claims, bits-where, vector-of, match-vector, down-from, bit-set, set-bits, search, route-answer, default-answer, place-answer, refused, answer-of, lookup, whole-words, words, one-if, answer-number, vector-number, c-lookup, c-match-vector}
+use Rattle.rules.specs.Table.{in-range, wrap, prefix, steps, filter-bits, positions, bucket, Memory, counters-size, filter-start, counter-place, counter-places, slots-size, slot-number, prefix-word, mark-word, default-word, occupied, mark-of, hop-of, mark-at, prefix-at, default-mark, holds, free, held, vacant, is-some, stored, refuse, sized, loose, full, hits, passes-15, runs-short, from-1, memory-refusal, route-refusal, add-refusal, withdraw-refusal, change-refusal, Update, update, zeroed, step-each, with-slot, with-default, with-found, added, withdrawn, changed, clear, add, withdraw, change, claims, bits-where, vector-of, match-vector, down-from, bit-set, set-bits, search, route-answer, default-answer, place-answer, refused, answer-of, lookup, one-if, answer-words, list-words, Listed, listed, fourfold, list-refusal, lookup-list, whole-words, words, answer-number, vector-number, c-lookup, c-match-vector, bytes-of, c-list-refusal, c-lookup-list}
 
 -- an address or a prefix by its four octets
 abbrev pub ip : (a b c d : ℕ) → ℕ
@@ -86,6 +86,22 @@ finds hop L probes = 0 ∷ 1 ∷ hop ∷ L ∷ probes ∷ []
 -- none, with the probes made
 abbrev none-after : (probes : ℕ) → List ℕ
 none-after probes = 0 ∷ 0 ∷ 0 ∷ 0 ∷ probes ∷ []
+
+-- the addresses of P4 to P7, as one list
+abbrev asked : List ℕ
+asked = ip 8 1 2 3 ∷ ip 10 1 2 3 ∷ ip 10 2 2 3 ∷ ip 11 0 0 1 ∷ []
+
+-- so many results before the call
+abbrev sevens : (n : ℕ) → List ℕ
+sevens n = replicate n 7
+
+-- what a list of addresses is given back, and its results
+abbrev told : Listed → List ℕ
+told l = l .refusal ∷ l .results
+
+-- so it is from C, over these bytes, with the table of P5 to P7
+abbrev told-c : (addresses results : List ℕ) → List ℕ
+told-c addresses results = told (c-lookup-list T (ten-one .counters) (bytes-of (ten-one .slots)) addresses results)
 
 -- what the rules give in a case, and what is said of it
 record Case : Type 0 where
@@ -187,6 +203,35 @@ further =
     ∷ case (c-lookup T (replicate 512 0) (replicate 1027 0) 0 ∷ c-match-vector T (replicate 512 0) (replicate 1028 0) 0 ∷ []) (562949953421312 ∷ 0 ∷ [])
     ∷ []
 
+-- lists of addresses
+lists : List Case
+lists =
+    -- W5: P4 alone, P4 to P7 as one list, and P7 with the default
+    case (told (lookup-list T ten (ip 8 1 2 3 ∷ []) (sevens 4))) (0 ∷ 0 ∷ 0 ∷ 0 ∷ 1 ∷ [])
+    ∷ case (told (lookup-list T ten-one asked (sevens 16))) (0 ∷ 0 ∷ 0 ∷ 0 ∷ 2 ∷ 1 ∷ 9 ∷ 16 ∷ 1 ∷ 1 ∷ 7 ∷ 8 ∷ 2 ∷ 0 ∷ 0 ∷ 0 ∷ 0 ∷ [])
+    ∷ case (told (lookup-list T ten-one-default (ip 11 0 0 1 ∷ []) (sevens 4))) (0 ∷ 1 ∷ 3 ∷ 0 ∷ 0 ∷ [])
+    -- no address and no results
+    ∷ case (told (lookup-list T ten-one [] [])) (0 ∷ [])
+    -- one result too few or too many, none, and none asked: 18, and the results stay
+    ∷ case (told (lookup-list T ten-one asked (sevens 15))) (18 ∷ sevens 15)
+    ∷ case (told (lookup-list T ten-one asked (sevens 17))) (18 ∷ sevens 17)
+    ∷ case (told (lookup-list T ten-one asked [])) (18 ∷ [])
+    ∷ case (told (lookup-list T ten-one [] (sevens 4))) (18 ∷ sevens 4)
+    -- 1 before 2, and 2 before 18
+    ∷ case (told (lookup-list (settings 9 4 1 2 1 2 1) (record { counters = sevens 511; slots = sevens 257 }) asked (sevens 15))) (1 ∷ sevens 15)
+    ∷ case (told (lookup-list T (record { counters = sevens 511; slots = sevens 257 }) asked (sevens 15))) (2 ∷ sevens 15)
+    -- W6: 10.1.2.3 as bytes, and its four words; hop 258 is 2 and then 1
+    ∷ case (told-c (3 ∷ 2 ∷ 1 ∷ 10 ∷ []) (sevens 16)) (0 ∷ 1 ∷ 0 ∷ 0 ∷ 0 ∷ 9 ∷ 0 ∷ 0 ∷ 0 ∷ 16 ∷ 0 ∷ 0 ∷ 0 ∷ 1 ∷ 0 ∷ 0 ∷ 0 ∷ [])
+    ∷ case (bytes-of (258 ∷ [])) (2 ∷ 1 ∷ 0 ∷ 0 ∷ [])
+    -- three bytes are no address, whatever the results are; nor are five
+    ∷ case (told-c (3 ∷ 2 ∷ 1 ∷ []) []) (18 ∷ [])
+    ∷ case (told-c (3 ∷ 2 ∷ 1 ∷ []) (sevens 12)) (18 ∷ sevens 12)
+    ∷ case (told-c (3 ∷ 2 ∷ 1 ∷ 10 ∷ 3 ∷ []) (sevens 16)) (18 ∷ sevens 16)
+    -- one byte too few or too many
+    ∷ case (told-c (3 ∷ 2 ∷ 1 ∷ 10 ∷ []) (sevens 15)) (18 ∷ sevens 15)
+    ∷ case (told-c (3 ∷ 2 ∷ 1 ∷ 10 ∷ []) (sevens 17)) (18 ∷ sevens 17)
+    ∷ []
+
 -- two lists of numbers are the same
 unfoldable pub same : List ℕ → List ℕ → Bool
 same [] [] = true
@@ -201,9 +246,9 @@ come-out (c ∷ cs) = same (c .gives) (c .says) && come-out cs
 
 -- to unfold this is to unfold all that the calls compute with
 unfoldable pub computing : ℕ
-unfolding within all any count those lowest in-range wrap prefix steps filter-bits positions bucket counters-size filter-start counter-place counter-places slots-size slot-number prefix-word mark-word default-word occupied mark-of hop-of mark-at prefix-at default-mark holds free held vacant is-some stored refuse sized loose full hits passes-15 runs-short from-1 memory-refusal route-refusal add-refusal withdraw-refusal change-refusal update zeroed step-each with-slot with-default with-found added withdrawn changed clear add withdraw change claims bits-where vector-of match-vector down-from bit-set set-bits search route-answer default-answer place-answer refused answer-of lookup whole-words words one-if answer-number vector-number c-lookup c-match-vector
+unfolding within all any count those lowest in-range wrap prefix steps filter-bits positions bucket counters-size filter-start counter-place counter-places slots-size slot-number prefix-word mark-word default-word occupied mark-of hop-of mark-at prefix-at default-mark holds free held vacant is-some stored refuse sized loose full hits passes-15 runs-short from-1 memory-refusal route-refusal add-refusal withdraw-refusal change-refusal update zeroed step-each with-slot with-default with-found added withdrawn changed clear add withdraw change claims bits-where vector-of match-vector down-from bit-set set-bits search route-answer default-answer place-answer refused answer-of lookup one-if answer-words list-words listed fourfold list-refusal lookup-list whole-words words answer-number vector-number c-lookup c-match-vector bytes-of c-list-refusal c-lookup-list
 computing = 0
 
-all-come-out : come-out (worked ++ refusals ++ further) ≡ true
-unfolding worked refusals further same come-out computing
+all-come-out : come-out (worked ++ refusals ++ further ++ lists) ≡ true
+unfolding worked refusals further lists same come-out computing
 all-come-out = refl

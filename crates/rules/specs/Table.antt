@@ -2,7 +2,7 @@
 -- numbers and any memory, damaged memory too.
 use Prim.Native.Nat.{ℕ, zero, suc, _+_, _-_, _*_, _/_, _%_, _^_}
 use mathlib.Core.Bool.{Bool, true, false, cond, not, _&&_}
-use mathlib.Core.List.{List, [], _∷_, map}
+use mathlib.Core.List.{List, [], _∷_, _++_, map}
 use mathlib.Core.Option.{Option, some, none}
 use lib.ListN.{length, getD, set, replicate}
 use lib.Dec.{ltb, eqb}
@@ -363,6 +363,47 @@ lookup t m address =
     let refusal = memory-refusal t m 0 in
     cond (eqb refusal 0) (answer-of t m address) (refused refusal)
 
+-- ---- A list of addresses
+
+-- found as a number
+unfoldable pub one-if : Bool → ℕ
+one-if found = cond found 1 0
+
+-- an answer's four words
+unfoldable pub answer-words : Answer → List ℕ
+answer-words r = one-if (r .found) ∷ r .hop ∷ r .length ∷ r .probes ∷ []
+
+-- the four words of each address's lookup, one address after the other
+unfoldable pub list-words : Settings → Memory → (addresses : List ℕ) → List ℕ
+list-words t m [] = []
+list-words t m (address ∷ addresses) = answer-words (lookup t m address) ++ list-words t m addresses
+
+-- what a list of addresses is given back, and the results as it leaves them
+pub record Listed : Type 0 where
+  pub refusal : ℕ
+  pub results : List ℕ
+
+-- a number given back, and the results as they are left
+abbrev pub answered : (refusal : ℕ) (results : List ℕ) → Listed
+answered refusal results = record { refusal = refusal; results = results }
+
+-- a refused list leaves the results as they were
+unfoldable pub listed : (refusal : ℕ) (after before : List ℕ) → Listed
+listed refusal after before = answered refusal (cond (eqb refusal 0) after before)
+
+-- there are exactly four results to an address
+unfoldable pub fourfold : (addresses results : ℕ) → Bool
+fourfold addresses results = eqb results (4 * addresses)
+
+-- 1, 2 and 18, which every list checks, of so many addresses and results
+unfoldable pub list-refusal : Settings → Memory → (addresses results after : ℕ) → ℕ
+list-refusal t m addresses results after = memory-refusal t m (refuse (not (fourfold addresses results)) 18 after)
+
+-- a list of addresses, as it is given back and as it leaves the results
+unfoldable pub lookup-list : Settings → Memory → (addresses results : List ℕ) → Listed
+lookup-list t m addresses results =
+    listed (list-refusal t m (length addresses) (length results) 0) (list-words t m addresses) results
+
 -- ---- The numbers as they cross to C
 
 -- the words of a list of bytes, four to a word, the low byte first
@@ -376,10 +417,6 @@ whole-words (b0 ∷ b1 ∷ b2 ∷ b3 ∷ bytes) = (b0 + b1 * 2 ^ 8 + b2 * 2 ^ 16
 -- bytes that are no whole words are no slots, so their size is wrong for any settings
 unfoldable pub words : (bytes : List ℕ) → List ℕ
 words bytes = cond (eqb (length bytes % 4) 0) (whole-words bytes) []
-
--- found as a number
-unfoldable pub one-if : Bool → ℕ
-one-if found = cond found 1 0
 
 -- a lookup's answer as one number
 unfoldable pub answer-number : Answer → ℕ
@@ -398,3 +435,20 @@ c-lookup t counters slots address = answer-number (lookup t (lent counters (word
 unfoldable pub c-match-vector : Settings → (counters slots : List ℕ) (address : ℕ) → ℕ
 c-match-vector t counters slots address =
     vector-number (match-vector t (lent counters (words slots)) address)
+
+-- the bytes of a list of words, four to a word, the low byte first
+unfoldable pub bytes-of : (words : List ℕ) → List ℕ
+bytes-of [] = []
+bytes-of (word ∷ words) = word % 2 ^ 8 ∷ word / 2 ^ 8 % 2 ^ 8 ∷ word / 2 ^ 16 % 2 ^ 8 ∷ word / 2 ^ 24 ∷ bytes-of words
+
+-- what a list of addresses gives back to C: 18 for bytes that are no whole words too
+unfoldable pub c-list-refusal : Settings → (counters slots addresses results : List ℕ) → ℕ
+c-list-refusal t counters slots addresses results =
+    list-refusal t (lent counters (words slots)) (length addresses) (length results)
+    (refuse (not (eqb (length addresses % 4) 0)) 18 0)
+
+-- a list of addresses from C: slots, addresses and results cross as bytes
+unfoldable pub c-lookup-list : Settings → (counters slots addresses results : List ℕ) → Listed
+c-lookup-list t counters slots addresses results =
+    listed (c-list-refusal t counters slots addresses results)
+    (bytes-of (list-words t (lent counters (words slots)) (words addresses))) results
