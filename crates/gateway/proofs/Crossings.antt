@@ -1,9 +1,10 @@
--- From what a call of the table ensures to what crosses to C: one law for every update.
+-- From what a call of the table ensures to what crosses to C: one law for every update, and one for a list of addresses.
 use Prim.Native.Nat.{ℕ, _*_, _^_}
 use mathlib.Core.Path.{_≡_, refl}
 use mathlib.Core.List.{List}
-use Rattle.rules.specs.Table.{Update, left}
-use Rattle.gateway.specs.Crossing.{RefusalFits, Crossed}
+use Rattle.rules.specs.Table.{Update, left, Listed, answered}
+use Rattle.numbers.specs.Fitting.{RefusalFits}
+use Rattle.gateway.specs.Crossing.{Crossed, ListCrossed}
 
 module _ {u : Update} {refusal : ℕ} {counters slots : List ℕ} (ensured : u ≡ left refusal counters slots) where
   pub fits-above : RefusalFits (u .refusal) → RefusalFits refusal
@@ -11,3 +12,10 @@ module _ {u : Update} {refusal : ℕ} {counters slots : List ℕ} (ensured : u �
 
   pub crossed : {answer : ℕ} → answer ≡ refusal * 2 ^ 48 → Crossed u answer counters slots
   crossed number = rw ensured (record { number = number; memory = refl })
+
+module _ {l : Listed} {refusal : ℕ} {results : List ℕ} (ensured : l ≡ answered refusal results) where
+  pub list-fits-above : RefusalFits (l .refusal) → RefusalFits refusal
+  list-fits-above fits = rw ensured at fits
+
+  pub list-crossed : {answer : ℕ} → answer ≡ refusal * 2 ^ 48 → ListCrossed l answer results
+  list-crossed number = rw ensured (record { number = number; results = refl })

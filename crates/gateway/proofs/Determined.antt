@@ -14,6 +14,7 @@ use Rattle.gateway.proofs.gateway_withdraw.Reads as withdraw
 use Rattle.gateway.proofs.gateway_change.Reads as change
 use Rattle.gateway.proofs.gateway_match_vector.Reads as match-vector
 use Rattle.gateway.proofs.gateway_lookup.Reads as lookup
+use Rattle.gateway.proofs.gateway_lookup_list.Reads as lookup-list
 
 -- the two lists that an update leaves stand after the seven settings
 alike : (u : Update) {r q : ℕ} {counters bytes slots words : List ℕ} → Crossed u r counters slots → Crossed u q bytes words
@@ -43,3 +44,7 @@ match-vector-determined κs a r q s e one other = one ∙ sym other
 
 pub lookup-determined : (κs : Lfts 2) (a : _) (r q : _) (s e : _) → lookup.Post κs a r s → lookup.Post κs a q e → r ≡ q
 lookup-determined κs a r q s e one other = one ∙ sym other
+
+pub lookup-list-determined : (κs : Lfts 4) (a : _) (r q : _) (s e : _) → lookup-list.Post κs a r s → lookup-list.Post κs a q e
+    → (r ≡ q) × (now (past s .1 .1 .1 .0) ≡ now (past e .1 .1 .1 .0))
+lookup-list-determined κs a r q s e one other = (one .number ∙ sym (other .number), one .results ∙ sym (other .results))

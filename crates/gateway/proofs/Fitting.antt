@@ -13,11 +13,11 @@ use borrow.Author.Tests.{ltb-true}
 use Rattle.rules.specs.declared.Settings.{Settings}
 use Rattle.rules.specs.declared.Place.{Place}
 use Rattle.rules.specs.Tools.{those}
-use Rattle.rules.specs.Table.{prefix, occupied, hop-of, default-mark, holds, held, Memory, refuse, memory-refusal, route-refusal, add-refusal, withdraw-refusal, change-refusal, update, clear, add, withdraw, change, match-vector, down-from, bit-set, set-bits, vector-of, found-or, search as searched, route-answer, default-answer, place-answer, refused, answer-of, lookup}
+use Rattle.rules.specs.Table.{prefix, occupied, hop-of, default-mark, holds, held, Memory, refuse, memory-refusal, route-refusal, add-refusal, withdraw-refusal, change-refusal, update, clear, add, withdraw, change, match-vector, down-from, bit-set, set-bits, vector-of, found-or, search as searched, route-answer, default-answer, place-answer, refused, answer-of, lookup, list-refusal, listed, c-list-refusal, c-lookup-list}
 use Rattle.rules.proofs.Marks.{hop-high}
 use Rattle.rules.proofs.Members.{both}
 use Rattle.rules.proofs.Lowest.{some-lowest}
-use Rattle.gateway.specs.Crossing.{refusals-end, RefusalFits, Fits}
+use Rattle.numbers.specs.Fitting.{refusals-end, RefusalFits, Fits}
 
 -- ---- Refusals
 
@@ -50,6 +50,10 @@ withdraw-fits t m p L = search (refuse-fits, none-fits) depth 20
 pub change-fits : (t : Settings) (m : Memory) (p L hop : ℕ) → RefusalFits (change t m p L hop .refusal)
 unfolding change update change-refusal route-refusal memory-refusal
 change-fits t m p L hop = search (refuse-fits, none-fits) depth 20
+
+pub list-fits : (t : Settings) (counters slots addresses results : List ℕ) → RefusalFits (c-lookup-list t counters slots addresses results .refusal)
+unfolding c-lookup-list listed c-list-refusal list-refusal memory-refusal
+list-fits t counters slots addresses results = search (refuse-fits, none-fits) depth 20
 
 pub vector-fits : (t : Settings) (m : Memory) (address : ℕ) → RefusalFits (match-vector t m address .refusal)
 unfolding match-vector

@@ -1,23 +1,22 @@
-// The gateway table for C: six calls on numbers and lent memory. No call requires anything, keeps
-// anything or copies the memory. Lookup and match vector read the slots as bytes, four to a word, the
+// The gateway table for C: seven calls on numbers and lent memory. No call requires anything, keeps
+// anything or copies the memory. Questions read the slots as bytes, four to a word, the
 // low byte first; the updates write them as words of the machine. What a C program may rely on is
 // proved in crates/c_promises.
 ghost use mathlib.Core.Path.{_≡_};
-ghost use Prim.Native.Nat.{_*_, _+_, _^_, _≤_};
-ghost use Rattle.rules.specs.Table.{lent, words, memory-refusal, lookup, match-vector, one-if, answer-number, vector-number, c-lookup, c-match-vector, clear, add, withdraw, change};
-ghost use Rattle.gateway.specs.Crossing.{settings-of, RefusalFits, Fits, Crossed};
-use hops::answer_default;
+ghost use Rattle.rules.specs.Table.{lent, words, memory-refusal, lookup, match-vector, c-lookup, c-match-vector, answered, c-lookup-list, clear, add, withdraw, change};
+ghost use Rattle.gateway.specs.Crossing.{settings-of, Crossed, ListCrossed};
 use hops::answer_refused;
-use hops::answer_route;
+use lookups::answer_in_bytes;
+use lookups::list_in_bytes;
+use numbers::number_of_answer;
+use numbers::number_of_vector;
+use numbers::refusal_part;
+use refusals::refuse_list;
 use rules::Answer;
-use rules::Place;
 use rules::Settings;
 use rules::Vector;
 use settings::refuse_sizes;
 use vectors::vector_of;
-use words::default_mark;
-use words::mark_at;
-use words::search_bytes;
 use words::word_count;
 
 // The seven numbers that come first in every call, as settings.
@@ -51,15 +50,34 @@ fn lookup(settings: Settings, counters: &[u8], slots: &[u8], address: u32) -> An
         return answer_refused(refusal);
     }
     let claimed = vector_of(settings, counters, address);
-    let place = search_bytes(settings, slots, address, claimed);
-    match place {
-        Place::At {
-            slot,
-            length,
-            probes,
-        } => answer_route(mark_at(slots, slot), length, probes),
-        Place::Absent => answer_default(default_mark(settings, slots), u32::count_ones(claimed)),
+    answer_in_bytes(settings, slots, address, claimed)
+}
+
+// The answers to a list of addresses, where slots, addresses and results are lent as bytes.
+fn lookup_list(
+    settings: Settings,
+    counters: &[u8],
+    slots: &[u8],
+    addresses: &[u8],
+    results: &mut [u8],
+) -> u32
+    ensures { λ r. ⌜ c-lookup-list settings (now (counters .entry)) (now (slots .entry)) (now (addresses .entry)) (now (results .entry)) ≡ answered r (now (results .exit)) ⌝ }
+{
+    let refused = refuse_list(
+        settings,
+        counters.len(),
+        word_count(slots),
+        addresses.len(),
+        results.len(),
+    );
+    if refused != 0 {
+        return refused;
     }
+    if addresses.len() % 4 != 0 {
+        return 18;
+    }
+    list_in_bytes(settings, counters, slots, addresses, results);
+    0
 }
 
 // The vector of an address, for slots that are lent as bytes.
@@ -78,41 +96,6 @@ fn match_vector(settings: Settings, counters: &[u8], slots: &[u8], address: u32)
         refusal: 0,
         vector: vector,
     }
-}
-
-// A refusal's part of the number that every call gives back.
-fn refusal_part(refusal: u32) -> u64
-    requires { ⌜ RefusalFits refusal ⌝ }
-    ensures { λ r. ⌜ r ≡ refusal * 2 ^ 48 ⌝ }
-{
-    (refusal as u64) * 0x1_0000_0000_0000
-}
-
-// Found, as 1 or 0.
-fn one_if(found: bool) -> u64
-    ensures { λ r. ⌜ r ≤ 1 ⌝ }
-    ensures { λ r. ⌜ r ≡ one-if found ⌝ }
-{
-    if found { 1 } else { 0 }
-}
-
-// An answer as one number.
-fn number_of_answer(answer: Answer) -> u64
-    requires { ⌜ Fits answer ⌝ }
-    ensures { λ r. ⌜ r ≡ answer-number answer ⌝ }
-{
-    let found = one_if(answer.found) * 0x100_0000_0000;
-    let hop = (answer.hop as u64) * 0x1_0000;
-    let length = (answer.length as u64) * 0x100;
-    refusal_part(answer.refusal) + found + hop + length + answer.probes as u64
-}
-
-// A match vector as one number.
-fn number_of_vector(vector: Vector) -> u64
-    requires { ⌜ RefusalFits (vector .refusal) ⌝ }
-    ensures { λ r. ⌜ r ≡ vector-number vector ⌝ }
-{
-    refusal_part(vector.refusal) + vector.vector as u64
 }
 
 // Empties the table: zero in every byte and word.
@@ -235,4 +218,26 @@ pub extern "C" fn gateway_lookup(
     ensures { λ r. ⌜ r ≡ c-lookup (settings-of k d e s a b c) (now (counters .entry)) (now (slots .entry)) address ⌝ }
 {
     number_of_answer(lookup(settings_of(k, d, e, s, a, b, c), counters, slots, address))
+}
+
+// The lookup of each address of a list, in its order: found as 1 or 0, hop, length and probes, four
+// words to an address. Slots, addresses and results are bytes, four to a word.
+#[no_mangle]
+pub extern "C" fn gateway_lookup_list(
+    k: u32,
+    d: u32,
+    e: u32,
+    s: u32,
+    a: u32,
+    b: u32,
+    c: u32,
+    counters: &[u8],
+    slots: &[u8],
+    addresses: &[u8],
+    results: &mut [u8],
+) -> u64
+    ensures { λ r. ⌜ ListCrossed (c-lookup-list (settings-of k d e s a b c) (now (counters .entry)) (now (slots .entry)) (now (addresses .entry)) (now (results .entry))) r (now (results .exit)) ⌝ }
+{
+    let settings = settings_of(k, d, e, s, a, b, c);
+    refusal_part(lookup_list(settings, counters, slots, addresses, results))
 }

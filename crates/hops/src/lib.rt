@@ -1,7 +1,7 @@
-// What a mark answers to a lookup.
+// What a mark answers to a lookup, and an answer's found as a number.
 ghost use mathlib.Core.Path.{_≡_};
 ghost use Prim.Native.Nat.{_≤_};
-ghost use Rattle.rules.specs.Table.{route-answer, default-answer, refused};
+ghost use Rattle.rules.specs.Table.{route-answer, default-answer, refused, one-if};
 use buckets::is_occupied;
 use rules::Answer;
 
@@ -52,4 +52,12 @@ pub fn answer_refused(refusal: u32) -> Answer
         length: 0,
         probes: 0,
     }
+}
+
+// Found, as 1 or 0.
+pub fn one_if(found: bool) -> u32
+    ensures { λ r. ⌜ r ≤ 1 ⌝ }
+    ensures { λ r. ⌜ r ≡ one-if found ⌝ }
+{
+    if found { 1 } else { 0 }
 }

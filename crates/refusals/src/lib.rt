@@ -1,11 +1,13 @@
-// What an update checks before it looks into the memory: 1 to 4 of its route, and 5 of its hop. 0 is
-// no refusal.
+// What a call checks before it looks into the memory: an update 1 to 4 of its route, and 5 of its hop;
+// a list of addresses 1, 2 and 18. 0 is no refusal.
 ghost use mathlib.Core.Path.{_≡_};
 ghost use lib.Dec.{ltb};
-ghost use Rattle.rules.specs.Table.{lent, refuse, route-refusal};
+ghost use lib.ListN.{length};
+ghost use Rattle.rules.specs.Table.{Memory, lent, refuse, route-refusal, list-refusal};
 use prefixes::prefix_of;
 use rules::Settings;
 use settings::refuse_memory;
+use settings::refuse_sizes;
 
 // 1 to 4, which every update checks.
 pub fn refuse_route(settings: Settings, counters: &[u8], slots: &[u32], p: u32, length: u32) -> u32
@@ -41,6 +43,30 @@ pub fn refuse_hop(
     }
     if 65535 < hop {
         return 5;
+    }
+    0
+}
+
+// 1, 2 and 18, for memory of these many counters and words and for so many addresses and results,
+// counted both in words or both in bytes.
+pub fn refuse_list(
+    settings: Settings,
+    counters: usize,
+    slots: usize,
+    addresses: usize,
+    results: usize,
+) -> u32
+    ensures { λ r. ⌜ ((m : Memory) → length (m .counters) ≡ counters → length (m .slots) ≡ slots → r ≡ list-refusal settings m addresses results 0) ⌝ }
+{
+    let refusal = refuse_sizes(settings, counters, slots);
+    if refusal != 0 {
+        return refusal;
+    }
+    if results % 4 != 0 {
+        return 18;
+    }
+    if results / 4 != addresses {
+        return 18;
     }
     0
 }

@@ -12,6 +12,7 @@ use Rattle.table.proofs.withdraw.Reads as withdraw
 use Rattle.table.proofs.change.Reads as change
 use Rattle.table.proofs.match_vector.Reads as match-vector
 use Rattle.table.proofs.lookup.Reads as lookup
+use Rattle.table.proofs.lookup_list.Reads as lookup-list
 
 -- an update that is left so, and so, is left alike
 alike : (u : Update) {r q : ℕ} {counters bytes slots words : List ℕ} → u ≡ left r counters slots → u ≡ left q bytes words
@@ -41,3 +42,9 @@ match-vector-determined κs a r q s e one other = one ∙ sym other
 
 pub lookup-determined : (κs : Lfts 2) (a : _) (r q : _) (s e : _) → lookup.Post κs a r s → lookup.Post κs a q e → r ≡ q
 lookup-determined κs a r q s e one other = one ∙ sym other
+
+pub lookup-list-determined : (κs : Lfts 4) (a : _) (r q : _) (s e : _) → lookup-list.Post κs a r s → lookup-list.Post κs a q e
+    → (r ≡ q) × (now (s .1 .1 .1 .1 .0) ≡ now (e .1 .1 .1 .1 .0))
+lookup-list-determined κs a r q s e one other =
+    let same = sym one ∙ other in
+    (ap (λ l. l .refusal) same, ap (λ l. l .results) same)

@@ -1,3 +1,2 @@
--- What the contracts determine, and the law that two of the proofs share.
+-- What the contracts determine.
 pub mod Determined
-pub mod Zeros

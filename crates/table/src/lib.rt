@@ -1,28 +1,21 @@
-// The gateway table: six calls over lent memory. Nothing is kept between calls but what is lent.
+// The gateway table: seven calls over lent memory. Nothing is kept between calls but what is lent.
 // No call requires anything: bad input gets its number and changes nothing.
 ghost use mathlib.Core.Path.{_≡_};
-ghost use mathlib.Core.Bool.{not};
-ghost use mathlib.Core.List.{List};
-ghost use Prim.Native.Nat.{ℕ};
-ghost use lib.ListN.{length, replicate};
-ghost use Rattle.rules.specs.Table.{lent, left, update, refuse, occupied, default-mark, with-default, clear, add, withdraw, change, match-vector, lookup};
-ghost use Rattle.rules.specs.Ready.{Slots};
+ghost use Rattle.rules.specs.Table.{lent, left, clear, add, withdraw, change, match-vector, lookup, lookup-list, answered};
 use buckets::Vacancy;
-use buckets::default_mark;
-use buckets::is_occupied;
-use buckets::mark_at;
-use buckets::put_default;
 use buckets::put_slot;
 use buckets::search_bucket;
-use buckets::search_buckets;
+use defaults::add_default;
+use defaults::change_default;
 use filters::Step;
 use filters::cannot_step;
 use filters::places_of;
 use filters::step_each;
-use hops::answer_default;
 use hops::answer_refused;
-use hops::answer_route;
+use lookups::answer_in_words;
+use lookups::list_in_words;
 use refusals::refuse_hop;
+use refusals::refuse_list;
 use refusals::refuse_route;
 use rules::Answer;
 use rules::Place;
@@ -30,26 +23,8 @@ use rules::Settings;
 use rules::Vector;
 use settings::refuse_memory;
 use vectors::vector_of;
-
-fn zero_bytes(bytes: &mut [u8])
-    ensures { λ _. ⌜ now (bytes .exit) ≡ replicate (length (now (bytes .entry))) 0 ⌝ }
-{
-    let mut i = 0;
-    while i < bytes.len() {
-        bytes[i] = 0;
-        i += 1;
-    }
-}
-
-fn zero_words(words: &mut [u32])
-    ensures { λ _. ⌜ now (words .exit) ≡ replicate (length (now (words .entry))) 0 ⌝ }
-{
-    let mut i = 0;
-    while i < words.len() {
-        words[i] = 0;
-        i += 1;
-    }
-}
+use zeros::zero_bytes;
+use zeros::zero_words;
 
 // Empties the table: writes zero to every byte and word. Gives back 0, or a refusal's number.
 pub fn clear(settings: Settings, counters: &mut [u8], slots: &mut [u32]) -> u32
@@ -61,30 +36,6 @@ pub fn clear(settings: Settings, counters: &mut [u8], slots: &mut [u32]) -> u32
     }
     zero_bytes(counters);
     zero_words(slots);
-    0
-}
-
-// Add's part at length 0: gives the default route a mark, where there is none yet.
-fn add_default(settings: Settings, slots: &mut [u32], mark: u32) -> u32
-    requires { ⌜ Slots settings (now slots) ⌝ }
-    ensures { λ r. ⌜ ((counters : List ℕ) → update (refuse (occupied (default-mark settings (now (slots .entry)))) 6 0) (with-default settings (lent counters (now (slots .entry))) mark) (lent counters (now (slots .entry))) ≡ left r counters (now (slots .exit))) ⌝ }
-{
-    if is_occupied(default_mark(settings, slots)) {
-        return 6;
-    }
-    put_default(settings, slots, mark);
-    0
-}
-
-// Withdraw's and change's: gives it another mark, where there is one.
-fn change_default(settings: Settings, slots: &mut [u32], mark: u32) -> u32
-    requires { ⌜ Slots settings (now slots) ⌝ }
-    ensures { λ r. ⌜ ((counters : List ℕ) → update (refuse (not (occupied (default-mark settings (now (slots .entry))))) 7 0) (with-default settings (lent counters (now (slots .entry))) mark) (lent counters (now (slots .entry))) ≡ left r counters (now (slots .exit))) ⌝ }
-{
-    if !is_occupied(default_mark(settings, slots)) {
-        return 7;
-    }
-    put_default(settings, slots, mark);
     0
 }
 
@@ -224,13 +175,30 @@ pub fn lookup(settings: Settings, counters: &[u8], slots: &[u32], address: u32) 
         return answer_refused(refusal);
     }
     let claimed = vector_of(settings, counters, address);
-    let place = search_buckets(settings, slots, address, claimed);
-    match place {
-        Place::At {
-            slot,
-            length,
-            probes,
-        } => answer_route(mark_at(slots, slot), length, probes),
-        Place::Absent => answer_default(default_mark(settings, slots), u32::count_ones(claimed)),
+    answer_in_words(settings, slots, address, claimed)
+}
+
+// The lookup of each address of a list, in its order: found as 1 or 0, hop, length and probes, four
+// results to an address.
+pub fn lookup_list(
+    settings: Settings,
+    counters: &[u8],
+    slots: &[u32],
+    addresses: &[u32],
+    results: &mut [u32],
+) -> u32
+    ensures { λ r. ⌜ lookup-list settings (lent (now (counters .entry)) (now (slots .entry))) (now (addresses .entry)) (now (results .entry)) ≡ answered r (now (results .exit)) ⌝ }
+{
+    let refused = refuse_list(
+        settings,
+        counters.len(),
+        slots.len(),
+        addresses.len(),
+        results.len(),
+    );
+    if refused != 0 {
+        return refused;
     }
+    list_in_words(settings, counters, slots, addresses, results);
+    0
 }

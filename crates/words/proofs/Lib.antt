@@ -1,2 +1,3 @@
--- The laws that this crate's proofs and those of what C is promised cite.
+-- The laws that other proofs cite, of words in bytes and of words put there.
+pub mod Bytes
 pub mod Words

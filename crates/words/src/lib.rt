@@ -2,9 +2,11 @@
 // whose slots are lent so. Nothing is copied.
 ghost use mathlib.Core.Path.{_≡_};
 ghost use mathlib.Core.Bool.{true};
-ghost use Prim.Native.Nat.{_+_, _*_, _^_, _<_};
+ghost use mathlib.Core.List.{[], _∷_};
+ghost use Prim.Native.Nat.{_+_, _*_, _^_, _<_, _≤_};
 ghost use lib.ListN.{length, getD};
-ghost use Rattle.rules.specs.Table.{in-range, mark-word, mark-at, default-mark, set-bits, search, words};
+ghost use lib.Seq.{sets};
+ghost use Rattle.rules.specs.Table.{in-range, mark-word, mark-at, default-mark, set-bits, search, words, bytes-of};
 ghost use Rattle.rules.specs.Ready.{Slots};
 ghost use Rattle.buckets.specs.Turns.{holding};
 use buckets::is_occupied;
@@ -30,12 +32,23 @@ fn join(b0: u8, b1: u8, b2: u8, b3: u8) -> u32
 }
 
 // A word, by its number.
-fn word_at(bytes: &[u8], i: usize) -> u32
+pub fn word_at(bytes: &[u8], i: usize) -> u32
     requires { ⌜ i < length (words (now bytes)) ⌝ }
     ensures { λ r. ⌜ r ≡ getD (words (now (bytes .entry))) i 0 ⌝ }
 {
     let at = 4 * i;
     join(bytes[at], bytes[at + 1], bytes[at + 2], bytes[at + 3])
+}
+
+// Puts a word's four bytes from a place on.
+pub fn put_word(bytes: &mut [u8], at: usize, word: u32)
+    requires { ⌜ at + 4 ≤ length (now bytes) ⌝ }
+    ensures { λ _. ⌜ now (bytes .exit) ≡ sets (now (bytes .entry)) at (bytes-of (word ∷ [])) ⌝ }
+{
+    bytes[at] = (word % 256) as u8;
+    bytes[at + 1] = (word / 256 % 256) as u8;
+    bytes[at + 2] = (word / 65536 % 256) as u8;
+    bytes[at + 3] = (word / 16777216) as u8;
 }
 
 // The mark of a slot, by its number.

@@ -1,19 +1,13 @@
--- The checks are those of the rules; then the place that the search ends in answers, or the default does.
+-- The checks are those of the rules, and past them the vector and what it answers are.
 use mathlib.Core.Path.{_∙_, sym}
 use denote.Ref.{now}
 use borrow.Author.Needs.{needs}
 use Rattle.rules.specs.Table.{words}
 use Rattle.rules.proofs.Refusals.{Fitted, memory-passed}
-use Rattle.rules.proofs.Vectors.{ones-set-bits}
-use Rattle.hops.proofs.Lookups.{stopped, Searched, mark-lent, mark-low, route-answers, default-answers}
+use Rattle.rules.proofs.Answers.{by-vector}
+use Rattle.hops.proofs.Lookups.{stopped}
 use Rattle.gateway.proofs.lookup.Statement.{statement}
 use Rattle.gateway.proofs.lookup.Tie as tie
-
-refuse-bytes-requires : tie.Need-refuse-bytes-requires
-refuse-bytes-requires c κs = search needs
-
-answer-refused-requires : tie.Need-answer-refused-requires
-answer-refused-requires c κs = search needs
 
 returns : tie.Need-returns
 returns c = stopped _ _ _ _ (c .before .before .refuse-bytes .ensures) (c .before .if1 .taken) (c .answer-refused .ensures)
@@ -25,57 +19,19 @@ fit c = memory-passed _ _ _ 0 (sym (c .before .refuse-bytes .ensures) ∙ c .if1
 vector-of-requires : tie.Need-vector-of-requires
 vector-of-requires c κs = (fit c .range, record { size = fit c .counters-fit })
 
-search-bytes-requires : tie.Need-search-bytes-requires
-search-bytes-requires c κs = (fit (c .before) .range, record { size = fit (c .before) .slots-fit })
-
-enum-known-place : tie.Need-enum-known-place
-enum-known-place c = search needs
-
--- the vector and the place are those of the rules
-searched : (c : tie.After-search-bytes) → let a = c .before .before .before .before .before .before .args in
-    Searched (a .settings) (now (a .counters)) (words (now (a .slots))) (a .address) (c .before .vector-of .result) (c .search-bytes .result)
-searched c = record { fit = fit (c .before .before); claimed = c .before .vector-of .ensures; found = c .search-bytes .ensures }
-
-mark-at-requires : tie.Need-mark-at-requires
-mark-at-requires c κs = mark-lent (searched (c .before .before .before)) (c .before .place .given .1)
-
-answer-route-requires : tie.Need-answer-route-requires
-answer-route-requires c κs = mark-low (searched (c .before .before .before .before)) (c .before .before .place .given .1) (c .mark-at .ensures)
-
-enum-told : tie.Need-enum-told
-enum-told c = search needs
-
-default-mark-requires : tie.Need-default-mark-requires
-default-mark-requires c κs = record { size = fit (c .before .before .before .before) .slots-fit }
-
-answer-default-requires : tie.Need-answer-default-requires
-answer-default-requires c κs = search needs
+answer-in-bytes-requires : tie.Need-answer-in-bytes-requires
+answer-in-bytes-requires c κs = (fit (c .before) .range, record { size = fit (c .before) .slots-fit })
 
 returns-2 : tie.Need-returns-2
-returns-2 c =
-    let p = c .before .before .before in
-    route-answers (searched (p .before .before)) (p .place .given .1) (c .before .mark-at .ensures) (c .answer-route .ensures)
-
-returns-3 : tie.Need-returns-3
-returns-3 c =
-    let d = c .before in
-    let s = d .before .before .before in
-    default-answers (searched s) (d .before .enum-told .given .1) (d .default-mark .ensures) (ones-set-bits _ (s .before .vector-of .ok)) (c .answer-default .ensures)
+returns-2 c = c .answer-in-bytes .ensures ∙ sym (by-vector _ _ _ _ _ (fit (c .before .before)) (c .before .vector-of .ensures))
 
 pub lookup-spec : {M : Type 1} → statement M
 lookup-spec =
     tie.close
     (tie.spec
-    refuse-bytes-requires
-    answer-refused-requires
+    (λ c κs. search needs)
+    (λ c κs. search needs)
     returns
     vector-of-requires
-    search-bytes-requires
-    enum-known-place
-    mark-at-requires
-    answer-route-requires
-    enum-told
-    default-mark-requires
-    answer-default-requires
-    returns-2
-    returns-3)
+    answer-in-bytes-requires
+    returns-2)

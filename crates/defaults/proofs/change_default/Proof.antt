@@ -1,0 +1,28 @@
+-- The code's test is that of the rules, and the last word is the default's.
+use borrow.Author.Needs.{needs}
+use Rattle.rules.specs.Table.{refuse, update, with-default}
+use Rattle.defaults.proofs.change_default.Statement.{statement}
+use Rattle.defaults.proofs.change_default.Tie as tie
+
+returns : tie.Need-returns
+unfolding update refuse
+returns c counters = rw (← (c .before .before .default-mark .ensures), ← (c .before .is-occupied .ensures), c .if1 .taken)
+
+returns-2 : tie.Need-returns-2
+unfolding update refuse with-default
+returns-2 c counters =
+    let put = c .before .before in
+    let tested = put .before .before in
+    rw (← (tested .before .before .default-mark .ensures), ← (tested .before .is-occupied .ensures), tested .if1 .left, put .put-default .ensures)
+
+pub change-default-spec : {M : Type 1} → statement M
+change-default-spec =
+    tie.close
+    (tie.spec
+    (λ c κs. search needs)
+    (λ c κs. search needs)
+    (λ c. search needs)
+    returns
+    (λ c κs. search needs)
+    (λ c. search needs)
+    returns-2)

@@ -1,0 +1,2 @@
+-- What has room in a number.
+pub mod Fitting

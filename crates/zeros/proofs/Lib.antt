@@ -1,0 +1,2 @@
+-- The law that the two proofs share.
+pub mod Zeros
