@@ -4,7 +4,10 @@
 -- That whoever may make a call has good stands at the end.
 use Prim.Native.Nat.{ℕ}
 use mathlib.Core.Path.{_≡_, refl}
-use mathlib.Core.List.{List}
+use mathlib.Core.Bool.{true}
+use mathlib.Core.List.{List, [], _∷_}
+use lib.Pow.{areBytes}
+use mir.Syntax.{w8}
 use base.Logic.{ent}
 use contract.Lifetimes.{Lfts, Shares}
 use contract.Monad.{fact}
@@ -16,9 +19,13 @@ use denote.Triple.Entry.{onEntry}
 use borrow.Fn.World.{World, ArgsD, ResD}
 use borrow.Fn.Kinds.{GoodsP}
 use borrow.Author.Tests.{lt-ltb}
+use borrow.Rule.Slice.Know.{AllWT}
+use borrow.Table.Referent.{fInt}
+use Rattle.rules.specs.Table.{bytes-of}
 use Rattle.promises.specs.History.{Clear, Add, Withdraw, Change, word-sized, act}
 use Rattle.promises.proofs.Contracts.{owned}
-use Rattle.c_promises.specs.Calls.{Updated, bytes-of, LookedUp, Matched}
+use Rattle.promises.proofs.Elements.{elements-owned}
+use Rattle.c_promises.specs.Calls.{Updated, LookedUp, Matched, ListedUp}
 use Rattle.gateway.proofs.Arguments.{settings, past}
 use Rattle.gateway.proofs.gateway_clear
 use Rattle.gateway.proofs.gateway_clear.Reads as clear-reads
@@ -34,6 +41,9 @@ use Rattle.gateway.proofs.gateway_change.Reads as change-reads
 use Rattle.gateway.proofs.gateway_lookup
 use Rattle.gateway.proofs.gateway_lookup.Kinds as lookup-kinds
 use Rattle.gateway.proofs.gateway_lookup.Reads as lookup-reads
+use Rattle.gateway.proofs.gateway_lookup_list
+use Rattle.gateway.proofs.gateway_lookup_list.Kinds as list-kinds
+use Rattle.gateway.proofs.gateway_lookup_list.Reads as list-reads
 use Rattle.gateway.proofs.gateway_match_vector
 use Rattle.gateway.proofs.gateway_match_vector.Kinds as match-vector-kinds
 use Rattle.gateway.proofs.gateway_match_vector.Reads as match-vector-reads
@@ -69,6 +79,12 @@ pub match-vector-made : (κs : Lfts 2) (a : ArgsD gateway_match_vector.signature
     → (slots : List ℕ) → now (past a .1 .0) ≡ bytes-of slots → Matched (settings a) (now (past a .0)) slots (past a .1 .1 .0) r
 match-vector-made κs a r end good learnt slots lies = record { word = past good .1 .1 .0 .1; crossed = rw (← lies) learnt }
 
+-- A list of addresses also tells what it left of the results.
+pub list-made : (κs : Lfts 4) (a : ArgsD gateway_lookup_list.signature κs) (r : ResD gateway_lookup_list.signature κs) (end : AtExit gateway_lookup_list.ended κs) → list-reads.Learnt κs a r end
+    → (slots : List ℕ) → now (past a .1 .0) ≡ bytes-of slots → areBytes (now (past a .1 .1 .0)) ≡ true
+    → ListedUp (settings a) (now (past a .0)) slots (now (past a .1 .1 .0)) r (now (past a .1 .1 .1 .0)) (now (past end .1 .1 .1 .0))
+list-made κs a r end learnt slots lies bytes = record { bytes = bytes; crossed = rw (← lies) learnt }
+
 -- In every model of the logic, what a call asks on entry holds what the types of its arguments tell.
 module _ (w : World) (κs : Lfts 2) (qs : Shares 2) where
   pub add-owned : (a : ArgsD gateway_add.signature κs) (vss : Valss (typesAt (gateway_add.signature .params) κs))
@@ -90,3 +106,15 @@ module _ (w : World) (κs : Lfts 2) (qs : Shares 2) where
   pub match-vector-owned : (a : ArgsD gateway_match_vector.signature κs) (vss : Valss (typesAt (gateway_match_vector.signature .params) κs))
       → ent (w .𝓤) (onEntry (w .𝓤) (w .H) (w .𝓖 .A) gateway_match_vector.signature κs qs a vss) (fact (w .𝓤) (GoodsP κs match-vector-kinds.ps a))
   match-vector-owned = owned w match-vector-kinds.ps match-vector-kinds.r κs qs
+
+all-bytes : (bytes : List ℕ) → AllWT (fInt w8) bytes → areBytes bytes ≡ true
+all-bytes [] fit = refl
+all-bytes (byte ∷ bytes) fit = rw (lt-ltb byte 256 (fit .0 .fits)) (all-bytes bytes (fit .1))
+
+-- Of a list they tell besides, once it is looked at (⇛), that each byte of the addresses is below 256.
+module _ (w : World) (κs : Lfts 4) (qs : Shares 4) (a : ArgsD gateway_lookup_list.signature κs) (vss : Valss (typesAt (gateway_lookup_list.signature .params) κs)) where
+  pub list-owned : ent (w .𝓤) (onEntry (w .𝓤) (w .H) (w .𝓖 .A) gateway_lookup_list.signature κs qs a vss) (fact (w .𝓤) (GoodsP κs list-kinds.ps a))
+  list-owned = owned w list-kinds.ps list-kinds.r κs qs a vss
+
+  pub list-bytes-owned : ent (w .𝓤) (onEntry (w .𝓤) (w .H) (w .𝓖 .A) gateway_lookup_list.signature κs qs a vss) (w .H .⇛ (fact (w .𝓤) (areBytes (now (past a .1 .1 .0)) ≡ true)))
+  list-bytes-owned = elements-owned w list-kinds.ps list-kinds.r κs qs a vss (fInt w8) 9 2 tt (past a .1 .1 .0) refl (all-bytes (now (past a .1 .1 .0)))

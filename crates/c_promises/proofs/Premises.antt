@@ -5,8 +5,9 @@ use mathlib.Core.Path.{_≡_, refl}
 use mathlib.Core.Bool.{true}
 use mathlib.Core.List.{List, [], _∷_}
 use lib.Dec.{eqb, lit<}
+use lib.ListN.{replicate}
 use Rattle.rules.specs.declared.Settings.{Settings}
-use Rattle.rules.specs.Table.{Memory, lent, c-lookup}
+use Rattle.rules.specs.Table.{Memory, lent, answer-words, list-words, Listed, list-refusal, listed, fourfold, whole-words, words, c-lookup, bytes-of, c-list-refusal, c-lookup-list}
 use Rattle.rules.proofs.Worked.{ip, T, same}
 use Rattle.rules.proofs.Members.{both}
 use Rattle.promises.specs.History.{Call, Clear, Add, Withdraw, word-sized, all-word-sized, act}
@@ -15,9 +16,10 @@ use Rattle.promises.specs.Calls.{Made, numbers-of, on-paper}
 use Rattle.promises.proofs.Paper.{route}
 use Rattle.promises.proofs.Matches.{right}
 use Rattle.promises.proofs.Agree.{sevens, computing}
-use Rattle.c_promises.specs.Numbers.{gateway-refusal, Finds}
-use Rattle.c_promises.specs.Calls.{bytes-of, Ran, Stop, Step, told, Served}
+use Rattle.c_promises.specs.Numbers.{gateway-refusal, Finds, word-at, address-at, FindsAt}
+use Rattle.c_promises.specs.Calls.{ListedUp, Ran, Stop, Step, told, Served}
 use Rattle.c_promises.proofs.Promises.{finds-longest}
+use Rattle.c_promises.proofs.Lists.{list-finds-longest}
 
 -- these updates can be made, each with what the rules give back and leave
 record Run (t : Settings) (counters slots : List ℕ) : Type 0 where
@@ -81,3 +83,23 @@ found-met = finds-longest day-served (ip 10 2 2 3) answer (record { word = lit< 
 number-met : eqb answer (2 ^ 40 + 7 * 2 ^ 16 + 8 * 2 ^ 8 + 1) ≡ true
 unfolding day day-run run bytes-of computing
 number-met = refl
+
+-- and a list of two addresses, into thirty-two bytes, finds it for the first and says none of the second
+abbrev addresses : List ℕ
+addresses = bytes-of (ip 10 2 2 3 ∷ ip 11 0 0 1 ∷ [])
+
+abbrev list : Listed
+list = c-lookup-list T (day-run .last-counters) (bytes-of (day-run .last-slots)) addresses (replicate 32 9)
+
+list-asked : ListedUp T (day-run .last-counters) (day-run .last-slots) addresses (list .refusal * 2 ^ 48) (replicate 32 9) (list .results)
+unfolding bytes-of
+list-asked = record { bytes = refl; crossed = record { number = refl; results = refl } }
+
+list-words-met : same (words (list .results)) (1 ∷ 7 ∷ 8 ∷ 1 ∷ 0 ∷ 0 ∷ 0 ∷ 0 ∷ []) ≡ true
+unfolding day day-run run same computing bytes-of words whole-words c-lookup-list c-list-refusal list-refusal listed fourfold list-words answer-words
+list-words-met = refl
+
+list-found-met : FindsAt (list .results) 0 (route (ip 10 0 0 0) 8 7)
+unfolding day day-run run told on-paper gateway-refusal longest longer matches computing bytes-of address-at word-at c-lookup-list c-list-refusal list-refusal listed fourfold
+list-found-met =
+    list-finds-longest day-served list-asked refl 0 (lit< tt) (route (ip 10 0 0 0) 8 7) (right (ip 10 2 2 3) (on-paper [] (told (day-run .log))))

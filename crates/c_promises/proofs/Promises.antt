@@ -14,14 +14,14 @@ use lib.ListN.{length}
 use borrow.Author.Tests.{ltb-true}
 use Rattle.rules.specs.declared.Settings.{Settings}
 use Rattle.rules.specs.Tools.{all}
-use Rattle.rules.specs.Table.{in-range, bucket, lent, sized, words, slots-size, bit-set, lookup, match-vector, refused, one-if, answer-number, vector-number as packed-vector, c-lookup, c-match-vector}
+use Rattle.rules.specs.Table.{in-range, bucket, lent, sized, words, slots-size, bit-set, lookup, match-vector, refused, one-if, answer-number, vector-number as packed-vector, c-lookup, c-match-vector, bytes-of}
 use Rattle.rules.proofs.Vectors.{bit-where}
 use Rattle.promises.specs.History.{Route, Call, Clear, Add, Withdraw, word-sized, about}
 use Rattle.promises.specs.Demands.{Finds as table-Finds, Stored, number, Reordered, matches, Longest, NoMatch, memory-conditions, conditions, NoneMet, FirstMet, number-given, covered, probes-down-to, lengths-in-use, adds, filter-sum}
 use Rattle.promises.specs.Calls.{Made, calls-of, numbers-of, on-paper}
 use Rattle.promises.proofs.Calls as table
 use Rattle.c_promises.specs.Numbers.{gateway-refusal, gateway-found, gateway-length, gateway-probes, gateway-vector, Finds, SaysNone}
-use Rattle.c_promises.specs.Calls.{bytes-of, Updated, LookedUp, Matched, Ran, told, Served}
+use Rattle.c_promises.specs.Calls.{Updated, LookedUp, Matched, Ran, told, Served}
 use Rattle.c_promises.proofs.Unpacking.{Parts, VectorParts, lookup-parts, vector-parts, refusal-alone, words-again, four-to-a-word}
 use Rattle.c_promises.proofs.Runs.{ensured, ran-on, words-given, served-on, calls-told, only-refusals, looked-up, matched}
 

@@ -9,7 +9,7 @@ use Rattle.promises.specs.History.{Call, Clear, Add, Withdraw, Change, all-word
 use Rattle.promises.specs.Calls as table
 use Rattle.promises.specs.Calls.{Made, calls-of, numbers-of}
 use Rattle.c_promises.specs.Numbers.{gateway-refusal}
-use Rattle.c_promises.specs.Calls.{Updated, LookedUp, Matched, Ran, Stop, Step, told, Served}
+use Rattle.c_promises.specs.Calls.{Updated, LookedUp, Matched, Ran, Stop, Step, Ask, told, Served}
 use Rattle.c_promises.proofs.Unpacking.{update-unpacked, refusal-alone, words-again}
 
 pub ensured : {t : Settings} {call : Call} {counters slots counters' slots' : List ℕ} {answer : ℕ}
@@ -20,11 +20,13 @@ ensured {call = Add p L hop} made = update-unpacked (made .crossed)
 ensured {call = Withdraw p L} made = update-unpacked (made .crossed)
 ensured {call = Change p L hop} made = update-unpacked (made .crossed)
 
+-- A list of addresses changes nothing, so it is left out: refused bytes need be no words that the table could be lent.
 pub ran-on : {t : Settings} {counters slots counters' slots' : List ℕ} {log : List Made}
     → Ran t counters slots log counters' slots' → table.Ran t counters slots (told log) counters' slots'
 unfolding told
 ran-on Stop = table.Stop
 ran-on (Step call answer made rest) = table.Step call (gateway-refusal answer) (ensured made) (ran-on rest)
+ran-on (Ask addresses results answer results' asked rest) = ran-on rest
 
 -- every prefix that was given is a number of 32 bits
 pub words-given : {t : Settings} {counters slots counters' slots' : List ℕ} {log : List Made}
@@ -32,6 +34,7 @@ pub words-given : {t : Settings} {counters slots counters' slots' : List ℕ} {l
 unfolding told calls-of all-word-sized
 words-given Stop = refl
 words-given (Step call answer made rest) = rw (made .word) (words-given rest)
+words-given (Ask addresses results answer results' asked rest) = words-given rest
 
 pub served-on : {t : Settings} {log : List Made} {counters slots : List ℕ} → Served t log counters slots → table.Served t (told log) counters slots
 served-on served = record {
@@ -55,6 +58,7 @@ pub only-refusals : {t : Settings} {counters slots counters' slots' : List ℕ} 
 unfolding told numbers-of
 only-refusals Stop = refl
 only-refusals (Step call answer made rest) = ap₂ _∷_ (refusal-alone (made .crossed)) (only-refusals rest)
+only-refusals (Ask addresses results answer results' asked rest) = only-refusals rest
 
 -- what a lookup and a match vector give back over the words that an update left
 pub looked-up : {t : Settings} {counters slots : List ℕ} {address answer : ℕ} → LookedUp t counters slots address answer

@@ -14,14 +14,15 @@ use Rattle.rules.specs.declared.Answer.{Answer}
 use Rattle.rules.specs.declared.Vector.{Vector}
 use Rattle.rules.specs.declared.Settings.{Settings}
 use Rattle.rules.specs.Tools.{all}
-use Rattle.rules.specs.Table.{slots-size, Memory, memory-refusal, Update, lent, left, whole-words, words, one-if, answer-number, vector-number, lookup, match-vector, vector-of, c-lookup, c-match-vector}
+use Rattle.rules.specs.Table.{slots-size, Memory, memory-refusal, Update, lent, left, whole-words, words, one-if, answer-number, vector-number, lookup, match-vector, vector-of, c-lookup, c-match-vector, bytes-of}
 use Rattle.rules.proofs.Members.{both}
 use Rattle.rules.proofs.Vectors.{bits-lt}
+use Rattle.words.proofs.Bytes.{four-each}
 use Rattle.words.proofs.Words.{count-whole, count-none}
-use Rattle.gateway.specs.Crossing.{Fits, Crossed}
+use Rattle.numbers.specs.Fitting.{Fits}
+use Rattle.gateway.specs.Crossing.{Crossed}
 use Rattle.gateway.proofs.Fitting.{lookup-fits}
 use Rattle.c_promises.specs.Numbers.{gateway-refusal, gateway-found, gateway-hop, gateway-length, gateway-probes, gateway-vector}
-use Rattle.c_promises.specs.Calls.{bytes-of}
 
 -- ---- Lookups
 
@@ -86,11 +87,6 @@ whole-again : (slots : List ℕ) → whole-words (bytes-of slots) ≡ slots
 unfolding whole-words bytes-of
 whole-again [] = refl
 whole-again (word ∷ slots) = ap₂ _∷_ (omega arith) (whole-again slots)
-
-four-each : (slots : List ℕ) → length (bytes-of slots) ≡ 4 * length slots
-unfolding bytes-of
-four-each [] = refl
-four-each (word ∷ slots) = omega (arith, four-each slots)
 
 -- The words that an update leaves are the words of the bytes that a lookup reads.
 pub words-again : (slots : List ℕ) → words (bytes-of slots) ≡ slots

@@ -6,6 +6,7 @@ use mathlib.Core.Bool.{true, false}
 use mathlib.Core.List.{List, []}
 use mathlib.Core.Logic.{_↔_, _≢_}
 use lib.Dec.{eqb}
+use lib.ListN.{length}
 use borrow.Author.Tests.{ltb-true}
 use Rattle.rules.specs.declared.Settings.{Settings}
 use Rattle.rules.specs.declared.Answer.{Answer}
@@ -15,8 +16,9 @@ use Rattle.rules.specs.Table.{bucket, bits-where}
 use Rattle.promises.specs.History.{Route, Call, Add, Withdraw, about, word-sized}
 use Rattle.promises.specs.Demands.{Stored, number, Reordered, matches, Longest, NoMatch, Finds, SaysNone, number-given, covered, probes-down-to, lengths-in-use, adds, filter-sum}
 use Rattle.promises.specs.Calls.{Made, calls-of, numbers-of, on-paper}
-use Rattle.promises.proofs.Contracts.{Called, called-ensured, called-word, Looked, looked-given, looked-word, Matched, matched-given, matched-word, Calling, calling-ran, calling-words, Serving, served}
+use Rattle.promises.proofs.Contracts.{Called, called-ensured, called-word, Looked, looked-given, looked-word, ListCalled, list-given, list-words, Matched, matched-given, matched-word, Calling, calling-ran, calling-words, Serving, served}
 use Rattle.promises.proofs.Calls as promise
+use Rattle.promises.proofs.Lists as list
 
 module _ {t : Settings} {log : List Made} {counters slots : List ℕ} (serving : Serving t log counters slots) where
   -- the routes stored, by the calls and the numbers of the log
@@ -48,6 +50,14 @@ module _ {t : Settings} {log : List Made} {counters slots : List ℕ} (serving :
 
     pub probes-bounded : answer .probes ≤ lengths-in-use routes
     probes-bounded = promise.probes-bounded (served serving) address (looked-word looked) answer (looked-given looked)
+
+  -- ---- What a list of addresses gives back
+
+  -- It is accepted exactly if there are four results to an address. Place i is then as a lookup of address i that was
+  -- made (place-looked of proofs/Contracts.antt), so all that stands above is so of it.
+  pub list-accepted : {addresses results : List ℕ} {r : ℕ} {results' : List ℕ} → ListCalled t counters slots addresses results r results'
+      → (r ≡ 0) ↔ (length results ≡ 4 * length addresses)
+  list-accepted {addresses} {results} {r} {results'} called = list.list-accepted (served serving) addresses results r results' (list-given called)
 
   -- ---- What a match vector gives back
 
@@ -109,6 +119,13 @@ module _ {t : Settings} {log again : List Made} {counters slots new-counters new
   same-vectors {address} {vector} {new-vector} one other =
       promise.same-vectors (served serving) (served anew) order same added address (matched-word one) vector new-vector (matched-given one) (matched-given other)
 
+  -- Over as many results a list gets the same number from both and, where that is 0, the same results, word for word.
+  pub same-lists : {addresses results : List ℕ} {r : ℕ} {results' new-results : List ℕ} {new-r : ℕ} {new-results' : List ℕ}
+      → ListCalled t counters slots addresses results r results' → ListCalled t new-counters new-slots addresses new-results new-r new-results'
+      → length new-results ≡ length results → (new-r ≡ r) × (r ≡ 0 → new-results' ≡ results')
+  same-lists {addresses} {results} {r} {results'} {new-results} {new-r} {new-results'} one other =
+      list.same-lists (served serving) (served anew) order same added addresses (list-words one) results r results' (list-given one) new-results new-r new-results' (list-given other)
+
   -- So it stays, whatever calls are then made to both.
   module _ {more new-more : List Made} {last-counters last-slots new-last-counters new-last-slots : List ℕ}
       (calling : Calling t counters slots more last-counters last-slots) (new-calling : Calling t new-counters new-slots new-more new-last-counters new-last-slots)
@@ -127,3 +144,10 @@ module _ {t : Settings} {log again : List Made} {counters slots new-counters new
     same-vectors-after {address} {vector} {new-vector} one other =
         promise.same-vectors-after (served serving) (served anew) order same added (calling-ran calling) (calling-ran new-calling) same-calls (calling-words calling)
         address (matched-word one) vector new-vector (matched-given one) (matched-given other)
+
+    pub same-lists-after : {addresses results : List ℕ} {r : ℕ} {results' new-results : List ℕ} {new-r : ℕ} {new-results' : List ℕ}
+        → ListCalled t last-counters last-slots addresses results r results' → ListCalled t new-last-counters new-last-slots addresses new-results new-r new-results'
+        → length new-results ≡ length results → (new-r ≡ r) × (r ≡ 0 → new-results' ≡ results')
+    same-lists-after {addresses} {results} {r} {results'} {new-results} {new-r} {new-results'} one other =
+        list.same-lists-after (served serving) (served anew) order same added (calling-ran calling) (calling-ran new-calling) same-calls (calling-words calling)
+        addresses (list-words one) results r results' (list-given one) new-results new-r new-results' (list-given other)

@@ -14,7 +14,7 @@ use Rattle.rules.specs.Tools.{all}
 use Rattle.rules.specs.Table.{in-range, bucket, Memory, lent, left, sized, refused, bits-where, match-vector, lookup}
 use Rattle.promises.specs.History.{Route, Call, Clear, Add, Withdraw, Change, word-sized, all-word-sized, act, ask, ask-vector, about, noted, State, next, after, history, next-by, after-by, history-by}
 use Rattle.promises.specs.Demands.{Stored, number, Reordered, matches, Longest, NoMatch, Finds, SaysNone, memory-conditions, conditions, NoneMet, FirstMet, number-given, covered, probes-down-to, lengths-in-use, adds, refusals, filter-sum}
-use Rattle.promises.specs.Calls.{Ensured, Made, Ran, Stop, Step, calls-of, numbers-of, on-paper, Served}
+use Rattle.promises.specs.Calls.{Ensured, Made, Ran, Stop, Step, Ask, calls-of, numbers-of, on-paper, Served}
 use Rattle.promises.proofs.Promises as promise
 use Rattle.promises.proofs.Refused as demand-1
 
@@ -113,6 +113,7 @@ unfolding after-by calls-of on-paper
 same-after Stop routes = refl
 same-after {t} (Step call r {counters = counters} {slots = slots} {log = log} ensured rest) routes =
     ap (λ s. after t s (calls-of log)) (same-next t call counters slots r routes ensured) ∙ same-after rest (noted call r routes)
+same-after (Ask addresses results r results' ensured rest) routes = same-after rest routes
 
 its-numbers : {t : Settings} {counters slots last-counters last-slots : List ℕ} {log : List Made} → Ran t counters slots log last-counters last-slots
     → (routes : List Route) → refusals t (state counters slots routes) (calls-of log) ≡ numbers-of log
@@ -121,6 +122,7 @@ its-numbers Stop routes = refl
 its-numbers {t} (Step call r {counters = counters} {slots = slots} {log = log} ensured rest) routes =
     ap₂ _∷_ (ap (λ u. u .refusal) (acted t call counters slots ensured))
     (ap (λ s. refusals t s (calls-of log)) (same-next t call counters slots r routes ensured) ∙ its-numbers rest (noted call r routes))
+its-numbers (Ask addresses results r results' ensured rest) routes = its-numbers rest routes
 
 module _ {t : Settings} {log : List Made} {counters slots : List ℕ} (served : Served t log counters slots) where
   -- the routes stored, by the calls and the numbers of the log

@@ -12,12 +12,12 @@ use lib.ListN.{length}
 use borrow.Author.Tests.{ltb-true, leb-true, leb-false, lt-ltb, le-ltb, ne-eqb}
 use Rattle.rules.specs.declared.Settings.{Settings}
 use Rattle.rules.specs.Tools.{within, all as every, lowest, or-else}
-use Rattle.rules.specs.Table.{in-range, Memory, counters-size, slots-size, slot-number, occupied, mark-at, prefix-at, holds, free, held, vacant, is-some, stored, refuse, sized, from-1, full, passes-15, runs-short, memory-refusal, add-refusal, withdraw-refusal, change-refusal, update, clear, add, withdraw, change}
+use Rattle.rules.specs.Table.{in-range, Memory, counters-size, slots-size, slot-number, occupied, mark-at, prefix-at, holds, free, held, vacant, is-some, stored, refuse, sized, from-1, full, passes-15, runs-short, memory-refusal, add-refusal, withdraw-refusal, change-refusal, update, clear, add, withdraw, change, fourfold, list-refusal}
 use Rattle.rules.proofs.Members.{both}
 use Rattle.rules.proofs.Prefixes.{loose-low}
 use Rattle.rules.proofs.Refusals.{memory-order, add-order, withdraw-order, change-order}
 use Rattle.promises.specs.History.{Call, Clear, Add, Withdraw, Change, act}
-use Rattle.promises.specs.Demands.{Condition, outside, some-below, every-below, there, no-slot-left, memory-conditions, route-conditions, conditions, NoneMet, FirstMet}
+use Rattle.promises.specs.Demands.{Condition, outside, some-below, every-below, there, no-slot-left, memory-conditions, route-conditions, conditions, list-conditions, NoneMet, FirstMet}
 use Rattle.promises.proofs.Sums.{by-cases}
 
 -- ---- The first that is met
@@ -144,9 +144,14 @@ sizes-differ t m = not-both (eqb (length (m .counters)) (counters-size t)) (eqb 
 
 -- ---- So what a call gives back is the number of the first condition met
 
+-- 1 and 2 come first, whatever conditions stand after them
+pub memory-then : (t : Settings) (m : Memory) (rest : List Condition) → memory-refusal t m (first-met rest) ≡ first-met (memory-conditions t m ++ rest)
+unfolding first-met memory-conditions
+memory-then t m rest = memory-order t m (first-met rest) ∙ rw (range-outside t, sizes-differ t m)
+
 pub memory-first : (t : Settings) (m : Memory) → memory-refusal t m 0 ≡ first-met (memory-conditions t m)
 unfolding first-met memory-conditions
-memory-first t m = memory-order t m 0 ∙ rw (range-outside t, sizes-differ t m)
+memory-first t m = memory-then t m []
 
 add-first : (t : Settings) (m : Memory) (p L hop : ℕ) → add-refusal t m p L hop ≡ first-met (conditions t (Add p L hop) m)
 unfolding first-met conditions memory-conditions route-conditions passes-15
@@ -181,6 +186,10 @@ call-first t (Add p L hop) m = add-first t m p L hop
 call-first t (Withdraw p L) m = withdraw-first t m p L
 call-first t (Change p L hop) m = change-first t m p L hop
 
+pub list-first : (t : Settings) (m : Memory) (addresses results : List ℕ) → list-refusal t m (length addresses) (length results) 0 ≡ first-met (list-conditions t m addresses results)
+unfolding first-met list-conditions list-refusal fourfold
+list-first t m addresses results = memory-then t m _
+
 -- no number is 0
 pub memory-numbered : (t : Settings) (m : Memory) → numbered (memory-conditions t m) ≡ true
 unfolding numbered every memory-conditions
@@ -192,3 +201,7 @@ call-numbered t Clear m = refl
 call-numbered t (Add p L hop) m = refl
 call-numbered t (Withdraw p L) m = refl
 call-numbered t (Change p L hop) m = refl
+
+pub list-numbered : (t : Settings) (m : Memory) (addresses results : List ℕ) → numbered (list-conditions t m addresses results) ≡ true
+unfolding numbered every list-conditions memory-conditions
+list-numbered t m addresses results = refl

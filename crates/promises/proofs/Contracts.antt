@@ -7,6 +7,9 @@ use Prim.Native.Nat.{ℕ, _^_, _<_}
 use mathlib.Core.Path.{_≡_, refl}
 use mathlib.Core.Bool.{true}
 use mathlib.Core.List.{List, [], _∷_}
+use lib.Dec.{lit<}
+use lib.ListN.{length, getD}
+use mir.Syntax.{w32}
 use base.Logic.{ent, via, snd∗, guard, guardE}
 use ghost.Atoms.{sem}
 use contract.Lifetimes.{Lfts, Shares, toks}
@@ -21,12 +24,17 @@ use borrow.Author.Tests.{lt-ltb}
 use borrow.Fn.Between.{ownsᵒ, owns-in}
 use borrow.Fn.Kinds.{PK, RK, sigOf, slots, Dens, valssP, GoodsP}
 use borrow.Fn.World.{World, ArgsD, ResD}
+use borrow.Rule.Slice.Know.{fit-at}
+use borrow.Table.Referent.{fInt}
 use Rattle.rules.specs.declared.Settings.{Settings}
 use Rattle.rules.specs.declared.Answer.{Answer}
 use Rattle.rules.specs.declared.Vector.{Vector}
 use Rattle.rules.specs.Table.{lent, lookup as looked-up, match-vector}
 use Rattle.promises.specs.History.{Call, Clear, Add, Withdraw, Change, word-sized, all-word-sized}
-use Rattle.promises.specs.Calls.{Ensured, Made, Ran, Stop, Step, calls-of, Served}
+use Rattle.promises.specs.Demands.{answer-at}
+use Rattle.promises.specs.Calls.{Ensured, Made, Ran, Stop, Step, Ask, calls-of, Served, ListEnsured, Words}
+use Rattle.promises.proofs.Elements.{elements-owned}
+use Rattle.promises.proofs.Lists.{place-answers}
 use Rattle.table.proofs.clear
 use Rattle.table.proofs.clear.Kinds as clear-kinds
 use Rattle.table.proofs.clear.Reads as clear-reads
@@ -45,6 +53,9 @@ use Rattle.table.proofs.match_vector.Reads as match-vector-reads
 use Rattle.table.proofs.lookup
 use Rattle.table.proofs.lookup.Kinds as lookup-kinds
 use Rattle.table.proofs.lookup.Reads as lookup-reads
+use Rattle.table.proofs.lookup_list
+use Rattle.table.proofs.lookup_list.Kinds as list-kinds
+use Rattle.table.proofs.lookup_list.Reads as list-reads
 
 -- ---- What a contract tells
 
@@ -72,6 +83,10 @@ pub match-vector-ensures : (κs : Lfts 2) (a : ArgsD match_vector.signature κs)
     → r ≡ match-vector (a .0) (lent (now (a .1 .0)) (now (a .1 .1 .0))) (a .1 .1 .1 .0)
 match-vector-ensures κs a r end learnt = learnt
 
+pub list-ensures : (κs : Lfts 4) (a : ArgsD lookup_list.signature κs) (r : ResD lookup_list.signature κs) (end : AtExit lookup_list.ended κs) → list-reads.Learnt κs a r end
+    → ListEnsured (a .0) (now (a .1 .0)) (now (a .1 .1 .0)) (now (a .1 .1 .1 .0)) (now (a .1 .1 .1 .1 .0)) r (now (end .1 .1 .1 .1 .0))
+list-ensures κs a r end learnt = learnt
+
 -- ---- What the arguments' types tell
 
 -- Whoever may make a call, that is has what it asks on entry, has the plain facts of its arguments' types: of any
@@ -88,7 +103,7 @@ owned w {n} ps r κs qs a vss =
     (owns-in 𝓤 (w .H) (w .𝓖 .A) (givenOf 𝓤 (w .H) (w .𝓜) (w .𝓖)) n κs ps a vss)
     (guardE 𝓤 told rest (λ both. factI 𝓤 (GoodsP κs ps a) rest (both .1))))
 
--- so of the six calls
+-- so of the six of the seven calls that are lent counters and slots alone
 module _ (w : World) (κs : Lfts 2) (qs : Shares 2) where
   pub clear-owned : (a : ArgsD clear.signature κs) (vss : Valss (typesAt (clear.signature .params) κs))
       → ent (w .𝓤) (onEntry (w .𝓤) (w .H) (w .𝓖 .A) clear.signature κs qs a vss) (fact (w .𝓤) (GoodsP κs clear-kinds.ps a))
@@ -113,6 +128,16 @@ module _ (w : World) (κs : Lfts 2) (qs : Shares 2) where
   pub lookup-owned : (a : ArgsD lookup.signature κs) (vss : Valss (typesAt (lookup.signature .params) κs))
       → ent (w .𝓤) (onEntry (w .𝓤) (w .H) (w .𝓖 .A) lookup.signature κs qs a vss) (fact (w .𝓤) (GoodsP κs lookup-kinds.ps a))
   lookup-owned = owned w lookup-kinds.ps lookup-kinds.r κs qs
+
+-- So of a list of addresses, of which each is below 2^32: what is lent to be read tells so once it is looked at (⇛).
+module _ (w : World) (κs : Lfts 4) (qs : Shares 4) (a : ArgsD lookup_list.signature κs) (vss : Valss (typesAt (lookup_list.signature .params) κs)) where
+  pub list-owned : ent (w .𝓤) (onEntry (w .𝓤) (w .H) (w .𝓖 .A) lookup_list.signature κs qs a vss) (fact (w .𝓤) (GoodsP κs list-kinds.ps a))
+  list-owned = owned w list-kinds.ps list-kinds.r κs qs a vss
+
+  pub list-words-owned : ent (w .𝓤) (onEntry (w .𝓤) (w .H) (w .𝓖 .A) lookup_list.signature κs qs a vss) (w .H .⇛ (fact (w .𝓤) (Words (now (a .1 .1 .1 .0)))))
+  list-words-owned =
+      elements-owned w list-kinds.ps list-kinds.r κs qs a vss (fInt w32) 3 2 tt (a .1 .1 .1 .0) refl
+      (λ fits i inside. fit-at (fInt w32) 0 (record { fits = lit< tt }) (now (a .1 .1 .1 .0)) fits i .fits)
 
 -- ---- Calls as they were made
 
@@ -155,6 +180,28 @@ looked-given (LookupCalled κs a r end good learnt) = lookup-ensures κs a r end
 pub looked-word : {t : Settings} {counters slots : List ℕ} {address : ℕ} {answer : Answer} → Looked t counters slots address answer → address < 2 ^ 32
 looked-word (LookupCalled κs a r end good learnt) = good .1 .1 .1 .0 .1
 
+-- A list of addresses as it was made, with the number that it gave back and its results before and after.
+pub data ListCalled : (t : Settings) (counters slots addresses results : List ℕ) (r : ℕ) (results' : List ℕ) → Type 0 where
+  LookupListCalled : (κs : Lfts 4) (a : ArgsD lookup_list.signature κs) (r : ResD lookup_list.signature κs) (end : AtExit lookup_list.ended κs)
+      → GoodsP κs list-kinds.ps a → Words (now (a .1 .1 .1 .0)) → list-reads.Learnt κs a r end
+      → ListCalled (a .0) (now (a .1 .0)) (now (a .1 .1 .0)) (now (a .1 .1 .1 .0)) (now (a .1 .1 .1 .1 .0)) r (now (end .1 .1 .1 .1 .0))
+
+pub list-given : {t : Settings} {counters slots addresses results : List ℕ} {r : ℕ} {results' : List ℕ} → ListCalled t counters slots addresses results r results'
+    → ListEnsured t counters slots addresses results r results'
+list-given (LookupListCalled κs a r end good words learnt) = list-ensures κs a r end learnt
+
+pub list-words : {t : Settings} {counters slots addresses results : List ℕ} {r : ℕ} {results' : List ℕ} → ListCalled t counters slots addresses results r results' → Words addresses
+list-words (LookupListCalled κs a r end good words learnt) = words
+
+-- Place i of an accepted list is as a lookup of address i that was made: whatever is promised of a lookup is promised of it.
+pub place-looked : {t : Settings} {counters slots addresses results : List ℕ} {r : ℕ} {results' : List ℕ} → ListCalled t counters slots addresses results r results'
+    → r ≡ 0 → (i : ℕ) → i < length addresses → Looked t counters slots (getD addresses i 0) (answer-at results' i)
+place-looked (LookupListCalled κs a r end good words learnt) accepted i inside =
+    let given : ArgsD lookup.signature (κs .0, (κs .1 .0, tt)) = (a .0, (a .1 .0, (a .1 .1 .0, (getD (now (a .1 .1 .1 .0)) i 0, tt)))) in
+    LookupCalled (κs .0, (κs .1 .0, tt)) given (answer-at (now (end .1 .1 .1 .1 .0)) i) given
+    (good .0, (good .1 .0, (good .1 .1 .0, ((refl, words i inside), tt))))
+    (place-answers (a .0) (now (a .1 .0)) (now (a .1 .1 .0)) (now (a .1 .1 .1 .0)) (now (a .1 .1 .1 .1 .0)) r (now (end .1 .1 .1 .1 .0)) (list-ensures κs a r end learnt) accepted i inside)
+
 -- A match vector as it was asked for, and what was given back.
 pub data Matched : (t : Settings) (counters slots : List ℕ) (address : ℕ) (answer : Vector) → Type 0 where
   MatchVectorCalled : (κs : Lfts 2) (a : ArgsD match_vector.signature κs) (r : ResD match_vector.signature κs) (end : AtExit match_vector.ended κs) → GoodsP κs match-vector-kinds.ps a → match-vector-reads.Learnt κs a r end
@@ -168,23 +215,29 @@ matched-word (MatchVectorCalled κs a r end good learnt) = good .1 .1 .1 .0 .1
 
 -- ---- Calls one after the other
 
--- the calls of a log were made, each over the lists as the one before had left them
+-- the calls of a log were made, each over the lists as the one before had left them. A list of addresses may be looked up
+-- anywhere between them: it changes nothing and is not noted in the log.
 pub data Calling (t : Settings) : (counters slots : List ℕ) (log : List Made) (counters' slots' : List ℕ) → Type 0 where
   Ended : {counters slots : List ℕ} → Calling t counters slots [] counters slots
   Next : (call : Call) (r : ℕ) {counters slots counters' slots' last-counters last-slots : List ℕ} {log : List Made}
       → Called t call counters slots r counters' slots' → Calling t counters' slots' log last-counters last-slots
       → Calling t counters slots (record { call = call; given = r } ∷ log) last-counters last-slots
+  NextList : (addresses results : List ℕ) (r : ℕ) (results' : List ℕ) {counters slots last-counters last-slots : List ℕ} {log : List Made}
+      → ListCalled t counters slots addresses results r results' → Calling t counters slots log last-counters last-slots
+      → Calling t counters slots log last-counters last-slots
 
 pub calling-ran : {t : Settings} {counters slots last-counters last-slots : List ℕ} {log : List Made} → Calling t counters slots log last-counters last-slots
     → Ran t counters slots log last-counters last-slots
 calling-ran Ended = Stop
 calling-ran (Next call r called rest) = Step call r (called-ensured called) (calling-ran rest)
+calling-ran (NextList addresses results r results' called rest) = Ask addresses results r results' (list-given called) (calling-ran rest)
 
 pub calling-words : {t : Settings} {counters slots last-counters last-slots : List ℕ} {log : List Made} → Calling t counters slots log last-counters last-slots
     → all-word-sized (calls-of log) ≡ true
 unfolding all-word-sized calls-of
 calling-words Ended = refl
 calling-words (Next call r called rest) = rw (called-word called) (calling-words rest)
+calling-words (NextList addresses results r results' called rest) = calling-words rest
 
 -- a table was cleared, over lists that held anything, and then served the calls of a log
 pub record Serving (t : Settings) (log : List Made) (counters slots : List ℕ) : Type 0 where

@@ -1,11 +1,12 @@
 -- Each promise's premises are met by a small worked history: computed, and handed to the promise.
-use Prim.Native.Nat.{ℕ}
+use Prim.Native.Nat.{ℕ, zero, suc}
 use mathlib.Core.Path.{_≡_, refl, ap}
 use mathlib.Core.Bool.{true, false}
 use mathlib.Core.List.{List, [], _∷_}
 use mathlib.Core.Logic.{_≢_}
 use native.Mathlib.Omega.{arith}
 use lib.Dec.{eqb, lit<, lit≤}
+use lib.ListN.{replicate}
 use mir.Syntax.{w32}
 use mir.Val.{Val, vint}
 use contract.Lifetimes.{Lfts}
@@ -15,18 +16,18 @@ use denote.Struct.Declared.{row}
 use denote.Struct.Laws.{val}
 use Rattle.rules.specs.declared.Settings.{Settings}
 use Rattle.rules.specs.Tools.{all}
-use Rattle.rules.specs.Table.{Memory, lent, clear, add, lookup}
+use Rattle.rules.specs.Table.{Memory, lent, clear, add, lookup, answer-words, list-words, listed, fourfold, list-refusal, lookup-list}
 use Rattle.rules.proofs.Settings.{the-type}
 use Rattle.rules.proofs.Settings.Laws.{the-laws}
 use Rattle.rules.proofs.Worked.{ip, T, same}
 use Rattle.promises.specs.History.{Route, Call, Clear, Add, Withdraw, Change, word-sized, all-word-sized, act, ask, history}
-use Rattle.promises.specs.Demands.{Finds, Swapped, matches, Longest, adds, refusals, longest, longer}
-use Rattle.promises.specs.Calls.{Ensured, Made, Ran, Stop, Step, calls-of, on-paper, Served}
+use Rattle.promises.specs.Demands.{Finds, SaysNone, answer-at, Swapped, matches, Longest, adds, refusals, longest, longer}
+use Rattle.promises.specs.Calls.{Ensured, Made, Ran, Stop, Step, Ask, calls-of, on-paper, Served, ListEnsured, Words}
 use Rattle.promises.proofs.Agree.{sevens, computing}
 use Rattle.promises.proofs.Paper.{route}
 use Rattle.promises.proofs.Matches.{right}
 use Rattle.promises.proofs.Promises.{finds-longest, finds-default, none-exactly, freed-again, freed-for-others, all-accepted}
-use Rattle.promises.proofs.Contracts.{Called, ClearCalled, AddCalled, Looked, LookupCalled, Ended, Next, Serving}
+use Rattle.promises.proofs.Contracts.{Called, ClearCalled, AddCalled, called-ensured, Looked, LookupCalled, ListCalled, LookupListCalled, place-looked, Ended, Next, NextList, Serving}
 use Rattle.promises.proofs.Callers as caller
 
 -- a day of calls, with the number that each is given
@@ -210,3 +211,70 @@ looked = LookupCalled lifetimes (T, (lending (one .counters), (lending (one .slo
 looked-met : Finds (lookup T one (ip 10 2 2 3)) (route (ip 10 0 0 0) 8 7)
 unfolding longest longer matches on-paper computing
 looked-met = caller.finds-longest one-served looked (route (ip 10 0 0 0) 8 7) (right (ip 10 2 2 3) (on-paper [] (record { call = Add (ip 10 0 0 0) 8 7; given = 0 } ∷ [])))
+
+-- ---- A list of addresses
+
+-- 10.2.2.3 and 11.0.0.1, and eight words for their results
+abbrev addresses : List ℕ
+addresses = ip 10 2 2 3 ∷ ip 11 0 0 1 ∷ []
+
+abbrev nines : List ℕ
+nines = replicate 8 9
+
+abbrev answered-two : List ℕ
+answered-two = 1 ∷ 7 ∷ 8 ∷ 1 ∷ 0 ∷ 0 ∷ 0 ∷ 0 ∷ []
+
+addresses-sized : Words addresses
+addresses-sized zero inside = lit< tt
+addresses-sized (suc zero) inside = lit< tt
+addresses-sized (suc (suc i)) inside = absurd (omega arith)
+
+list-called : ListCalled T (one .counters) (one .slots) addresses nines 0 answered-two
+unfolding computing answer-words list-words listed fourfold list-refusal lookup-list
+list-called = LookupListCalled ([], ([], ([], ([], tt))))
+    (T, (lending (one .counters), (lending (one .slots), (lending addresses, (lending nines, tt))))) 0
+    (T, (lending (one .counters), (lending (one .slots), (lending addresses, (lending answered-two, tt)))))
+    (settings-good, ((lit< tt, lit< tt), ((lit< tt, lit< tt), ((lit< tt, lit< tt), ((lit< tt, lit< tt), tt))))) addresses-sized refl
+
+-- a table that served the add and then this list finds the first address, and says none of the second
+list-served : Serving T (record { call = Add (ip 10 0 0 0) 8 7; given = 0 } ∷ []) (one .counters) (one .slots)
+list-served = record {
+  counters-before = sevens .counters;
+  slots-before = sevens .slots;
+  counters-cleared = empty .counters;
+  slots-cleared = empty .slots;
+  cleared = clear-called;
+  calling = Next (Add (ip 10 0 0 0) 8 7) 0 add-called (NextList addresses nines 0 answered-two list-called Ended);
+}
+
+list-found : Finds (answer-at answered-two 0) (route (ip 10 0 0 0) 8 7)
+unfolding longest longer matches on-paper computing
+list-found = caller.finds-longest list-served (place-looked list-called refl 0 (lit< tt)) (route (ip 10 0 0 0) 8 7)
+    (right (ip 10 2 2 3) (on-paper [] (record { call = Add (ip 10 0 0 0) 8 7; given = 0 } ∷ [])))
+
+list-none : SaysNone (answer-at answered-two 1)
+unfolding longest longer matches on-paper computing
+list-none = caller.says-none list-served (place-looked list-called refl 1 (lit< tt))
+    (right (ip 11 0 0 1) (on-paper [] (record { call = Add (ip 10 0 0 0) 8 7; given = 0 } ∷ [])))
+
+-- seven words are refused with 18, and stay as they were
+list-short : ListEnsured T (one .counters) (one .slots) addresses (replicate 7 9) 18 (replicate 7 9)
+unfolding computing listed fourfold list-refusal lookup-list
+list-short = refl
+
+-- lists may stand before, between and after the updates of a log
+list-ran : Ran T (empty .counters) (empty .slots) (record { call = Add (ip 10 0 0 0) 8 7; given = 0 } ∷ []) (one .counters) (one .slots)
+unfolding computing answer-words list-words listed fourfold list-refusal lookup-list
+list-ran = Ask addresses nines 0 (replicate 8 0) refl (Step (Add (ip 10 0 0 0) 8 7) 0 (called-ensured add-called) (Ask addresses (replicate 7 9) 18 (replicate 7 9) list-short Stop))
+
+list-asked : Served T (record { call = Add (ip 10 0 0 0) 8 7; given = 0 } ∷ []) (one .counters) (one .slots)
+unfolding all-word-sized word-sized calls-of
+list-asked = record {
+  counters-before = sevens .counters;
+  slots-before = sevens .slots;
+  counters-cleared = empty .counters;
+  slots-cleared = empty .slots;
+  cleared = called-ensured clear-called;
+  ran = list-ran;
+  words = refl;
+}

@@ -3,17 +3,17 @@
 -- The list of numbers and their conditions is in specs/Demands.antt.
 use Prim.Native.Nat.{ℕ, _≤_}
 use mathlib.Core.Path.{_≡_, refl, sym, _∙_}
-use mathlib.Core.List.{List, map}
+use mathlib.Core.List.{List, [], _∷_, map}
 use mathlib.Core.Logic.{_↔_, _≢_}
 use lib.Dec.{eqb}
 use borrow.Author.Tests.{eqb-true, ne-eqb}
 use Rattle.rules.specs.declared.Settings.{Settings}
 use Rattle.rules.specs.declared.Place.{Place}
 use Rattle.rules.specs.declared.Place.the-variants.{At, Absent}
-use Rattle.rules.specs.Table.{Memory, memory-refusal, update, clear, add, withdraw, change, match-vector, route-answer, default-answer, place-answer, refused, answer-of, lookup}
+use Rattle.rules.specs.Table.{Memory, memory-refusal, update, clear, add, withdraw, change, match-vector, route-answer, default-answer, place-answer, refused, answer-of, lookup, listed, lookup-list}
 use Rattle.promises.specs.History.{Call, Clear, Add, Withdraw, Change, act, ask, ask-vector}
-use Rattle.promises.specs.Demands.{memory-conditions, route-conditions, conditions, numbers-by, NoneMet, FirstMet}
-use Rattle.promises.proofs.Conditions.{given-exactly, none-exactly, memory-first, call-first, memory-numbered, call-numbered}
+use Rattle.promises.specs.Demands.{memory-conditions, route-conditions, conditions, numbers-by, list-conditions, NoneMet, FirstMet}
+use Rattle.promises.proofs.Conditions.{given-exactly, none-exactly, memory-first, call-first, list-first, memory-numbered, call-numbered, list-numbered}
 use Rattle.promises.proofs.Sums.{by-cases}
 
 module _ (t : Settings) (call : Call) (m : Memory) where
@@ -48,7 +48,7 @@ place-accepted t slots ones (At n L probes) = refl
 place-accepted t slots ones Absent = refl
 
 module _ (t : Settings) (address : ℕ) (m : Memory) where
-  lookup-checks : ask t address m .refusal ≡ memory-refusal t m 0
+  pub lookup-checks : ask t address m .refusal ≡ memory-refusal t m 0
   unfolding ask lookup refused answer-of
   lookup-checks = by-cases (eqb (memory-refusal t m 0) 0)
       (λ good. rw good (place-accepted t (m .slots) _ _ ∙ sym (eqb-true _ 0 good))) (λ bad. rw bad)
@@ -77,3 +77,23 @@ module _ (t : Settings) (address : ℕ) (m : Memory) where
   pub vector-refused : ask-vector t address m .refusal ≢ 0 → ask-vector t address m .vector ≡ 0
   unfolding ask-vector match-vector
   vector-refused bad = rw (ne-eqb _ 0 bad)
+
+module _ (t : Settings) (m : Memory) (addresses results : List ℕ) where
+  -- A list of addresses is given a number exactly if its condition is met and none is of those before it in the list.
+  pub list-number : (n : ℕ) → 1 ≤ n → (lookup-list t m addresses results .refusal ≡ n) ↔ FirstMet n (list-conditions t m addresses results)
+  unfolding lookup-list listed
+  list-number = given-exactly (list-conditions t m addresses results) (list-first t m addresses results)
+
+  pub list-accepted-exactly : (lookup-list t m addresses results .refusal ≡ 0) ↔ NoneMet (list-conditions t m addresses results)
+  unfolding lookup-list listed
+  list-accepted-exactly = none-exactly (list-conditions t m addresses results) (list-first t m addresses results) (list-numbered t m addresses results)
+
+  -- These are its numbers, in that order.
+  pub list-numbers-listed : map (λ c. c .number) (list-conditions t m addresses results) ≡ 1 ∷ 2 ∷ 18 ∷ []
+  unfolding list-conditions memory-conditions
+  list-numbers-listed = refl
+
+  -- Where it is refused, every result is left as it was.
+  pub list-refused : lookup-list t m addresses results .refusal ≢ 0 → lookup-list t m addresses results .results ≡ results
+  unfolding lookup-list listed
+  list-refused bad = rw (ne-eqb _ 0 bad)

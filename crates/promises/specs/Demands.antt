@@ -1,5 +1,5 @@
 -- The words of the demands, as definitions over the stored routes.
-use Prim.Native.Nat.{ℕ, zero, suc, _+_, _-_, _%_, _^_, _≤_}
+use Prim.Native.Nat.{ℕ, zero, suc, _+_, _-_, _*_, _%_, _^_, _≤_}
 use mathlib.Core.Path.{_≡_}
 use mathlib.Core.Bool.{Bool, true, false, cond, not, _&&_, _||_}
 use mathlib.Core.List.{List, [], _∷_, _++_, map, List·Memᴰ}
@@ -89,6 +89,10 @@ numbers-by (Add p L hop) = 1 ∷ 2 ∷ 3 ∷ 4 ∷ 5 ∷ 6 ∷ 8 ∷ 9 ∷ []
 numbers-by (Withdraw p L) = 1 ∷ 2 ∷ 3 ∷ 4 ∷ 7 ∷ 10 ∷ []
 numbers-by (Change p L hop) = 1 ∷ 2 ∷ 3 ∷ 4 ∷ 5 ∷ 7 ∷ []
 
+-- what a list of addresses looks at: settings and sizes as every call, and then how many results there are
+unfoldable pub list-conditions : Settings → Memory → (addresses results : List ℕ) → List Condition
+list-conditions t m addresses results = memory-conditions t m ++ (18 when not (eqb (length results) (4 * length addresses))) ∷ []
+
 -- none of the conditions is met
 abbrev pub NoneMet : List Condition → Type 0
 NoneMet conditions = (c : Condition) → List·Memᴰ c conditions → c .met ≡ false
@@ -168,6 +172,17 @@ pub record SaysNone (answer : Answer) : Type 0 where
   pub found : answer .found ≡ false
   pub hop : answer .hop ≡ 0
   pub length : answer .length ≡ 0
+
+-- place i of a list's results, as an answer that carries no refusal: found where its first word is 1, then hop, length and probes
+unfoldable pub answer-at : (results : List ℕ) (i : ℕ) → Answer
+answer-at results i =
+    record {
+      refusal = 0;
+      found = eqb (getD results (4 * i) 0) 1;
+      hop = getD results (4 * i + 1) 0;
+      length = getD results (4 * i + 2) 0;
+      probes = getD results (4 * i + 3) 0;
+    }
 
 -- ---- Numbers given back, by the stored routes
 
