@@ -11,8 +11,9 @@
 #                                  the text program
 #   make soak SECONDS=60           runs it on random histories, or CALLS=10000000; SEED=1 fixes them
 #   make edits                     runs each wrong edit of code, to show that it is a wrong program
-#   make bench                     the time of lookups and updates beside calls written by hand in C, and
-#                                  the text program's beside the second program
+#   make bench                     the time of lookups and updates beside calls written by hand in C, of
+#                                  lists beside single lookups, and the text program's beside the second
+#                                  program
 #   make clean                     removes target/, where all of this is built
 #
 # Needed are the kit's command rt on the PATH (but for make settings and make clean), gcc for all that

@@ -1,8 +1,8 @@
 /*
  * Measures the proved calls beside calls written by hand in C: lookups of the same million addresses,
- * and withdrawals and adds of the same routes, on the same tables, in turns within one run. Every
- * answer of the two is compared, and after updates every byte. Settings are arguments to both, so
- * neither compiler knows them.
+ * and withdrawals and adds of the same routes, on the same tables, in turns within one run; and the
+ * lookup of a list beside as many single ones. Every answer of the two is compared, and after updates
+ * every byte. Settings are arguments to both, so neither compiler knows them.
  */
 #define _POSIX_C_SOURCE 199309L
 
@@ -16,7 +16,7 @@
 #include <string.h>
 #include <time.h>
 
-enum { ADDRESSES = 1000000, PAIRS = 100000, ROUNDS = 9, MOST_ROUTES = 6000 };
+enum { ADDRESSES = 1000000, PAIRS = 100000, ROUNDS = 9, MOST_ROUTES = 6000, SHORT_LIST = 64, LONG_LIST = 1000 };
 
 struct route {
     uint32_t prefix, length, hop;
@@ -50,6 +50,7 @@ static const uint32_t share[33] = {
 static struct route routes[MOST_ROUTES], stored[MOST_ROUTES];
 static uint32_t addresses[ADDRESSES], turns[PAIRS];
 static uint64_t by_hand[ADDRESSES], in_turn[ADDRESSES], proved[ADDRESSES];
+static struct gateway_result listed[ADDRESSES];
 
 static uint32_t random_length(void)
 {
@@ -103,7 +104,7 @@ static void *lend(size_t size)
 static void check(int agrees, const char *what)
 {
     if (!agrees) {
-        fprintf(stderr, "bench: %s: the proved table and the one written by hand differ\n", what);
+        fprintf(stderr, "bench: %s: the two differ\n", what);
         exit(1);
     }
 }
@@ -258,6 +259,43 @@ static void measure_updates(const struct table *t)
     take_back(&gateway);
 }
 
+/* All addresses by lists of so many, which must divide them; compared with what single lookups gave. */
+static void measure_list(double *best, const struct table *t, const struct memory *m, size_t many)
+{
+    uint64_t refused = 0;
+    memset(listed, 0xa5, sizeof listed);
+    double start = now();
+    for (size_t i = 0; i < ADDRESSES; i += many)
+        refused |= gateway_lookup_list(ASKED(m), (const uint8_t *)&addresses[i], many * sizeof addresses[0],
+                                       (uint8_t *)&listed[i], many * sizeof listed[0]);
+    keep_best(best, start, ADDRESSES);
+    check(refused == 0, "a list");
+    for (size_t i = 0; i < ADDRESSES; i++)
+        check(listed[i].found == (uint32_t)gateway_found(proved[i]) && listed[i].hop == gateway_hop(proved[i]) &&
+                  listed[i].length == gateway_length(proved[i]) && listed[i].probes == gateway_probes(proved[i]),
+              "a list");
+}
+
+static void measure_lists(const struct table *t)
+{
+    struct memory hand = lend_table(t), gateway = lend_table(t);
+    uint32_t many = fill(t, &hand, &gateway);
+    make_addresses(t->routes);
+
+    double single_ns = 0, short_ns = 0, long_ns = 0;
+    for (int round = 0; round < ROUNDS; round++) {
+        MEASURE_LOOKUPS(single_ns, &gateway, proved, gateway_lookup);
+        measure_list(&short_ns, t, &gateway, SHORT_LIST);
+        measure_list(&long_ns, t, &gateway, LONG_LIST);
+    }
+    print_table(t, many);
+    printf("  %9.1f  %8.1f  %5.2f  %7.1f  %5.2f\n", single_ns, short_ns, short_ns / single_ns, long_ns,
+           long_ns / single_ns);
+    fflush(stdout);
+    take_back(&hand);
+    take_back(&gateway);
+}
+
 int main(void)
 {
     printf("nanoseconds to a lookup, best of %d rounds over %d addresses\n", ROUNDS, ADDRESSES);
@@ -270,6 +308,11 @@ int main(void)
     printf("offered  stored  K  D E S  hand ns  proved ns  ratio\n");
     for (size_t i = 0; i < sizeof updated / sizeof updated[0]; i++)
         measure_updates(&updated[i]);
+    printf("\nnanoseconds to an address, best of %d rounds over %d addresses\n", ROUNDS, ADDRESSES);
+    printf("single: a call to each; short and long: a call to each list of %d and of %d\n\n", SHORT_LIST, LONG_LIST);
+    printf("offered  stored  K  D E S  single ns  short ns  ratio  long ns  ratio\n");
+    for (size_t i = 0; i < sizeof tables / sizeof tables[0]; i++)
+        measure_lists(&tables[i]);
     printf("\nevery answer agrees, and every byte\n");
     return 0;
 }

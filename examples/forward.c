@@ -7,12 +7,19 @@
  * 10.1.0.0/16 to hop 9. Each line of standard input is an address. For each, one line is written: hop,
  * length and probes, or "none" and the probes. A line that is no address is told on standard error,
  * its odd bytes as \xNN, and passed over; the exit status is then 1.
+ *
+ * Addresses that come in together are looked up together, a lot by one call, and are answered before more
+ * is read. So a line that a person types is answered at once.
  */
+#define _POSIX_C_SOURCE 200112L
+
 #include <gateway.h>
 
+#include <errno.h>
 #include <stdio.h>
 #include <stdlib.h>
 #include <string.h>
+#include <unistd.h>
 
 /* These hold ninety routes of each length with room to spare: docs/SETTINGS.md has others. */
 enum { K = 4, D = 10, E = 7, S = 8 };
@@ -27,7 +34,12 @@ static struct gateway_table table = {
     .slots_words = sizeof slots / sizeof slots[0],
 };
 
-enum { LINE = 64 };
+/* A line's characters that are kept, the most addresses in a lot, the most bytes in one read. */
+enum { LINE = 64, LOT = 256, READ = 4096 };
+
+static uint32_t addresses[LOT];
+static struct gateway_result results[LOT];
+static size_t waiting; /* so many addresses of the lot have no answer yet */
 
 /* Reads a decimal number up to most, with no leading zero, and steps past it; 0 if there is none. */
 static int read_number(const char **text, uint32_t most, uint32_t *number)
@@ -105,43 +117,85 @@ static int add_route(const char *route, const char *hop)
     return accepted(route, gateway_table_add(&table, prefix, length, to));
 }
 
-/* Writes what a lookup answers. None is refused where clear was accepted on the same table. */
-static void forward(uint32_t address)
+/* Answers the addresses that wait. None is refused where clear was accepted on the same table. */
+static void answer_lot(void)
 {
-    struct gateway_answer answer = gateway_table_lookup(&table, address);
-    if (answer.found)
-        printf("%u %u %u\n", (unsigned)answer.hop, (unsigned)answer.length, (unsigned)answer.probes);
-    else
-        printf("none %u\n", (unsigned)answer.probes);
+    if (!accepted("lookup", gateway_table_lookup_list(&table, addresses, waiting, results)))
+        exit(EXIT_FAILURE);
+    for (const struct gateway_result *result = results; result < results + waiting; result++)
+        if (result->found)
+            printf("%u %u %u\n", (unsigned)result->hop, (unsigned)result->length, (unsigned)result->probes);
+        else
+            printf("none %u\n", (unsigned)result->probes);
+    fflush(stdout);
+    waiting = 0;
 }
 
-/* Reads a line without its end, cut to LINE characters; its true length, or -1 if there is no line. */
-static long read_line(char line[LINE + 1])
+/* A line as far as it has come in: its first LINE characters, and how many it has. */
+struct line {
+    char text[LINE + 1];
+    size_t length;
+    unsigned long number;
+};
+
+static void take_character(struct line *line, char character)
 {
-    long length = 0;
-    int c = getchar();
-    if (c == EOF)
-        return -1;
-    for (; c != EOF && c != '\n'; c = getchar(), length++)
-        if (length < LINE)
-            line[length] = (char)c;
-    line[length < LINE ? length : LINE] = '\0';
-    return length;
+    if (line->length < LINE)
+        line->text[line->length] = character;
+    line->length++;
 }
 
-/* Reads an address that is the whole of a line. */
-static int read_line_address(const char *line, long length, uint32_t *address)
+/* Puts the address that is a whole line into the lot, and is ready for the next line. A line that is no
+   address is told, after the answers to those before it, and 0 given. */
+static int take_line(struct line *line)
 {
-    const char *at = line;
-    return read_address(&at, address) && at - line == length;
+    const size_t kept = line->length < LINE ? line->length : LINE;
+    const char *at = line->text;
+    line->text[kept] = '\0';
+    const int right = read_address(&at, &addresses[waiting]) && (size_t)(at - line->text) == line->length;
+    if (right) {
+        if (++waiting == LOT)
+            answer_lot();
+    } else {
+        char wrong[64];
+        answer_lot();
+        snprintf(wrong, sizeof wrong, "line %lu: not an address", line->number);
+        complain(wrong, line->text, kept);
+    }
+    line->length = 0;
+    line->number++;
+    return right;
+}
+
+/* Answers standard input to its end; 0 if it has a line that is no address, or cannot be read. */
+static int forward(void)
+{
+    static struct line line = {.number = 1};
+    static char input[READ];
+    int right = 1;
+    ssize_t got;
+    while ((got = read(STDIN_FILENO, input, sizeof input)) > 0 || (got < 0 && errno == EINTR)) {
+        for (ssize_t i = 0; i < got; i++)
+            if (input[i] != '\n')
+                take_character(&line, input[i]);
+            else if (!take_line(&line))
+                right = 0;
+        answer_lot();
+    }
+    if (line.length > 0 && !take_line(&line))
+        right = 0;
+    answer_lot();
+    if (got < 0) {
+        fprintf(stderr, "forward: standard input cannot be read\n");
+        right = 0;
+    }
+    return right;
 }
 
 int main(int argc, char **argv)
 {
     static const char *const worked[] = {"10.0.0.0/8", "7", "10.1.0.0/16", "9"};
-    char line[LINE + 1];
-    long length;
-    int status = EXIT_SUCCESS;
+    int status;
 
     if (argc % 2 == 0) {
         fprintf(stderr, "usage: forward [PREFIX HOP]... <ADDRESSES\n");
@@ -156,21 +210,7 @@ int main(int argc, char **argv)
         if (!add_route(worked[i], worked[i + 1]))
             return EXIT_FAILURE;
 
-    for (unsigned long number = 1; (length = read_line(line)) >= 0; number++) {
-        uint32_t address;
-        if (read_line_address(line, length, &address)) {
-            forward(address);
-        } else {
-            char wrong[64];
-            snprintf(wrong, sizeof wrong, "line %lu: not an address", number);
-            complain(wrong, line, (size_t)(length < LINE ? length : LINE));
-            status = EXIT_FAILURE;
-        }
-    }
-    if (ferror(stdin)) {
-        fprintf(stderr, "forward: standard input cannot be read\n");
-        status = EXIT_FAILURE;
-    }
+    status = forward() ? EXIT_SUCCESS : EXIT_FAILURE;
     if (fflush(stdout) != 0 || ferror(stdout)) {
         fprintf(stderr, "forward: standard output cannot be written\n");
         status = EXIT_FAILURE;

@@ -29,14 +29,14 @@
  *
  * Every call checks what it is given. The first of the GATEWAY_ refusals below whose condition holds
  * is answered, with zero for everything else, and no lent byte or word is changed. What no call can
- * check: each pointer must lead to as much memory as the size beside it says, counters and slots
- * must not overlap, the words of an update must be aligned as uint32_t, and a table must be asked and
- * updated under the settings that it was cleared with. Lookups may run at the same time; an update
- * must run alone.
+ * check: each pointer must lead to as much memory as the size beside it says (beside 0 it may be NULL),
+ * the lists that a call is lent must not overlap, the words of an update must be aligned as uint32_t, and
+ * a table must be asked and updated under the settings that it was cleared with. Lookups may run at the
+ * same time, those of a list each into results of its own; an update must run alone.
  *
  * What is proved of these calls, in a C program's own terms, is stated in
- * crates/c_promises/proofs/Promises.antt, and in specs/Numbers.antt there the functions that take an
- * answer apart. The functions on a table stand on them and are tested.
+ * crates/c_promises/proofs/Promises.antt and, of lists, in Lists.antt beside it; specs/Numbers.antt there
+ * has the functions that take an answer apart. The functions on a table stand on them and are tested.
  *
  * Choosing settings. A length has 2^e buckets of s slots, and a route goes into the one bucket that
  * its prefix hashes to: once that is full the route is refused, however empty the others are. So a
@@ -72,7 +72,7 @@ extern "C" {
 #endif
 
 /* The version of this header, of its archive and of its pkg-config file; CHANGELOG.md tells them apart. */
-#define GATEWAY_VERSION "0.2.0"
+#define GATEWAY_VERSION "0.3.0"
 
 /* An answer that is not looked at is a refusal that nobody sees: the compiler warns of it. */
 #if defined(__GNUC__)
@@ -81,7 +81,7 @@ extern "C" {
 #define GATEWAY_ANSWERS
 #endif
 
-/* What a call refuses, in the order in which it checks. */
+/* What a call refuses, in the order in which it checks. 11 to 17 are given by no call. */
 enum {
     GATEWAY_OK = 0,
     GATEWAY_BAD_SETTINGS = 1,   /* k, d, e or s is out of its range */
@@ -93,7 +93,8 @@ enum {
     GATEWAY_NOT_STORED = 7,     /* withdraw, change: the prefix is not stored */
     GATEWAY_BUCKET_FULL = 8,    /* add: every slot of the prefix's bucket is occupied */
     GATEWAY_COUNTER_FULL = 9,   /* add: a counter would pass 15 */
-    GATEWAY_COUNTER_SHORT = 10  /* withdraw: a counter would pass below 0; the memory is damaged */
+    GATEWAY_COUNTER_SHORT = 10, /* withdraw: a counter would pass below 0; the memory is damaged */
+    GATEWAY_BAD_LIST = 18       /* lookup list: no whole addresses, or not four result words to each */
 };
 
 /* A refusal in words. */
@@ -111,6 +112,7 @@ static inline const char *gateway_refusal_text(uint32_t refusal)
     case GATEWAY_BUCKET_FULL: return "every slot of the bucket is occupied";
     case GATEWAY_COUNTER_FULL: return "a counter would pass 15";
     case GATEWAY_COUNTER_SHORT: return "a counter would pass below 0";
+    case GATEWAY_BAD_LIST: return "the addresses are no whole words, or the results not four to each";
     default: return "unknown refusal";
     }
 }
@@ -173,9 +175,17 @@ struct gateway_answer {
     uint32_t probes;  /* how many buckets were searched */
 };
 
+/* What a lookup of a list answers to each of its addresses, as above. The refusal is the list's. */
+struct gateway_result {
+    uint32_t found;
+    uint32_t hop;
+    uint32_t length;
+    uint32_t probes;
+};
+
 /* What a match vector answers. */
 struct gateway_claims {
-    uint32_t refusal; /* as above */
+    uint32_t refusal; /* as of a lookup */
     uint32_t vector;  /* bit L - 1 is set exactly if the filter of length L claims the address */
 };
 
@@ -219,6 +229,21 @@ GATEWAY_ANSWERS uint64_t gateway_match_vector(uint32_t k, uint32_t d, uint32_t e
                                               const uint8_t *counters, size_t counters_bytes,
                                               const uint8_t *slots, size_t slots_bytes,
                                               uint32_t address);
+
+/*
+ * The lookup of each address of a list, in the list's order. Addresses and results are bytes as the slots
+ * are: an address is one word, and its results are the four words found (1 or 0), hop, length and probes,
+ * each what gateway_lookup gives. So on x86-64 arrays of uint32_t can be lent as their bytes. Of the answer
+ * only gateway_refusal is ever other than zero: GATEWAY_BAD_SETTINGS, then GATEWAY_BAD_SIZE, then
+ * GATEWAY_BAD_LIST if results_bytes is not four times addresses_bytes or addresses_bytes is no multiple of
+ * four. A refused list leaves every byte of the results as it was. An empty one is accepted.
+ */
+GATEWAY_ANSWERS uint64_t gateway_lookup_list(uint32_t k, uint32_t d, uint32_t e, uint32_t s, uint32_t a,
+                                             uint32_t b, uint32_t c, const uint8_t *counters,
+                                             size_t counters_bytes, const uint8_t *slots,
+                                             size_t slots_bytes, const uint8_t *addresses,
+                                             size_t addresses_bytes, uint8_t *results,
+                                             size_t results_bytes);
 
 /* GATEWAY_OK, or why the call was refused; of any call's answer. */
 static inline uint32_t gateway_refusal(uint64_t answer)
@@ -311,6 +336,18 @@ gateway_table_lookup(const struct gateway_table *table, uint32_t address)
                                           gateway_hop(number), gateway_length(number),
                                           gateway_probes(number)};
     return answer;
+}
+
+/* The same for each address of a list, in one call: results has count items too, in the same order. A
+   count that no memory could hold is refused as GATEWAY_BAD_LIST. */
+GATEWAY_ANSWERS static inline uint32_t
+gateway_table_lookup_list(const struct gateway_table *table, const uint32_t *addresses, size_t count,
+                          struct gateway_result *results)
+{
+    const int fits = count <= (size_t)-1 / sizeof *results;
+    return gateway_refusal(gateway_lookup_list(
+        GATEWAY_SETTINGS_OF(table), GATEWAY_BYTES_OF(table), (const uint8_t *)addresses,
+        fits ? count * sizeof *addresses : 1, (uint8_t *)results, fits ? count * sizeof *results : 0));
 }
 
 /* The lengths whose filters claim an address. */

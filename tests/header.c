@@ -3,6 +3,7 @@
 #include "gateway.h" /* twice, as it happens in a large program */
 
 #include <stdio.h>
+#include <string.h>
 
 static int wrong;
 
@@ -49,5 +50,11 @@ int main(void)
 
     for (uint32_t refusal = GATEWAY_OK; refusal <= GATEWAY_COUNTER_SHORT; refusal++)
         CHECK(gateway_refusal_text(refusal) != gateway_refusal_text(UINT32_MAX));
+    CHECK(gateway_refusal_text(GATEWAY_BAD_LIST) != gateway_refusal_text(UINT32_MAX));
+
+    /* Four words to a result, with nothing between them. */
+    const struct gateway_result results[2] = {{1, 2, 3, 4}, {5, 6, 7, 8}};
+    const uint32_t words[8] = {1, 2, 3, 4, 5, 6, 7, 8};
+    CHECK(sizeof results == sizeof words && memcmp(results, words, sizeof words) == 0);
     return wrong;
 }

@@ -6,6 +6,7 @@
 
 #include <stdio.h>
 #include <stdlib.h>
+#include <string.h>
 
 static int wrong;
 
@@ -88,6 +89,88 @@ static void run_refusals(void)
     CHECK(gateway_table_match_vector(&other, 0).refusal == GATEWAY_BAD_SETTINGS);
 }
 
+/* The addresses of P4 to P7, and what they give on the table of P5 to P7. */
+static const uint32_t asked[] = {0x08010203, 0x0a010203, 0x0a020203, 0x0b000001};
+static const struct gateway_result given[] = {{0, 0, 0, 2}, {1, 9, 16, 1}, {1, 7, 8, 2}, {0, 0, 0, 0}};
+
+/* Lends so many bytes of a list, which lies on no word's boundary, and checks that the results hold what is
+   given or, where the list is refused, what they held, and that no byte after them is written. */
+static uint32_t list_refusal(const struct gateway_table *table, size_t addresses_bytes, size_t results_bytes)
+{
+    uint8_t addresses[1 + 2 * sizeof asked], results[1 + 2 * sizeof given], left[sizeof results];
+    memcpy(addresses + 1, asked, sizeof asked);
+    memcpy(addresses + 1 + sizeof asked, asked, sizeof asked);
+    memset(results, 0xa5, sizeof results);
+    memset(left, 0xa5, sizeof left);
+    const struct gateway_settings t = table->settings;
+    const uint64_t answer = gateway_lookup_list(
+        t.k, t.d, t.e, t.s, t.a, t.b, t.c, table->counters, table->counters_bytes,
+        (const uint8_t *)table->slots, 4 * table->slots_words, addresses + 1, addresses_bytes, results + 1,
+        results_bytes);
+    if (answer == 0)
+        memcpy(left + 1, given, results_bytes);
+    CHECK(memcmp(results, left, sizeof results) == 0);
+    CHECK(answer == (uint64_t)gateway_refusal(answer) << 48);
+    return gateway_refusal(answer);
+}
+
+static void run_list(void)
+{
+    struct gateway_table table = cleared(2, 4, 1, 2, 1, 2, 1), other = table;
+    struct gateway_result results[4];
+    CHECK(gateway_table_add(&table, 0x0a000000, 8, 7) == GATEWAY_OK);
+    CHECK(gateway_table_add(&table, 0x0a010000, 16, 9) == GATEWAY_OK);
+    CHECK(gateway_table_lookup_list(&table, asked, 4, results) == GATEWAY_OK);
+    CHECK(memcmp(results, given, sizeof given) == 0);
+    CHECK(gateway_table_lookup_list(&table, asked, 0, results) == GATEWAY_OK);
+    CHECK(gateway_table_lookup_list(&table, NULL, 0, NULL) == GATEWAY_OK);
+    /* Their bytes are more than a size can say. */
+    CHECK(gateway_table_lookup_list(&table, asked, (size_t)-1, results) == GATEWAY_BAD_LIST);
+    CHECK(gateway_table_lookup_list(&table, asked, (size_t)1 << 62, results) == GATEWAY_BAD_LIST);
+
+    for (size_t many = 0; many <= 4; many++)
+        CHECK(list_refusal(&table, 4 * many, 16 * many) == GATEWAY_OK);
+    for (size_t off = 1; off <= 16; off++) {
+        CHECK(list_refusal(&table, 16, 64 - off) == GATEWAY_BAD_LIST);
+        CHECK(list_refusal(&table, 16, 64 + off) == GATEWAY_BAD_LIST);
+        CHECK(list_refusal(&table, 16 - off, 64) == GATEWAY_BAD_LIST);
+        CHECK(list_refusal(&table, 16 + off, 64) == GATEWAY_BAD_LIST);
+    }
+    for (size_t stray = 1; stray <= 3; stray++) {
+        CHECK(list_refusal(&table, stray, 4 * stray) == GATEWAY_BAD_LIST);
+        CHECK(list_refusal(&table, 16 + stray, 4 * (16 + stray)) == GATEWAY_BAD_LIST);
+        CHECK(list_refusal(&table, 16 + stray, 64) == GATEWAY_BAD_LIST);
+    }
+
+    other.slots_words--;
+    CHECK(list_refusal(&other, 16, 64) == GATEWAY_BAD_SIZE);
+    CHECK(list_refusal(&other, 15, 63) == GATEWAY_BAD_SIZE);
+    CHECK(list_refusal(&other, 0, 0) == GATEWAY_BAD_SIZE);
+    CHECK(gateway_table_lookup_list(&other, asked, 4, results) == GATEWAY_BAD_SIZE);
+    other.settings.k = 9;
+    CHECK(list_refusal(&other, 16, 64) == GATEWAY_BAD_SETTINGS);
+    CHECK(list_refusal(&other, 15, 63) == GATEWAY_BAD_SETTINGS);
+    CHECK(gateway_table_lookup_list(&other, asked, 4, results) == GATEWAY_BAD_SETTINGS);
+    CHECK(memcmp(results, given, sizeof given) == 0);
+}
+
+/* A long list gives what each of its addresses gives by itself, in its place. */
+static void run_long_list(void)
+{
+    enum { MANY = 3000 };
+    static uint32_t addresses[MANY];
+    static struct gateway_result results[MANY];
+    struct gateway_table table = cleared(4, 10, 7, 8, GATEWAY_GOOD_A, GATEWAY_GOOD_B, GATEWAY_GOOD_C);
+    for (uint32_t i = 0; i < 90; i++)
+        CHECK(gateway_table_add(&table, 0x0a000000 + (i << 16), 16, 65535 - 700 * i) == GATEWAY_OK);
+    for (uint32_t i = 0; i < MANY; i++)
+        addresses[i] = 0x0a000000 + i * 0x9e3779b1 % (100 << 16);
+    CHECK(gateway_table_lookup_list(&table, addresses, MANY, results) == GATEWAY_OK);
+    for (uint32_t i = 0; i < MANY; i++)
+        CHECK(is(gateway_table_lookup(&table, addresses[i]), results[i].found, results[i].hop,
+                 results[i].length, results[i].probes));
+}
+
 /* How many of the routes 10.0.0.0/24 to 10.0.89.0/24 are stored. */
 static uint32_t ninety(struct gateway_table table, uint32_t refusal)
 {
@@ -104,6 +187,8 @@ int main(void)
 {
     run_worked();
     run_refusals();
+    run_list();
+    run_long_list();
     CHECK(ninety(cleared(4, 10, 7, 8, GATEWAY_GOOD_A, GATEWAY_GOOD_B, GATEWAY_GOOD_C), GATEWAY_OK) == 90);
     CHECK(ninety(cleared(4, 11, 8, 8, 1, 2, 1), GATEWAY_BUCKET_FULL) == 8);
     CHECK(ninety(cleared(4, 11, 8, 8, 0, 0, 0), GATEWAY_COUNTER_FULL) == 3);
