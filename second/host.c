@@ -6,8 +6,9 @@
  *     host FILE SIZE
  *
  * A request is sixteen numbers of 64 bits: the call, k, d, e, s, a, b, c, where the counters begin in
- * the file and how many are lent, the same of the slots, then what the call has beside them. An answer
- * is one such number.
+ * the file and how many are lent, the same of the slots, then what the call has beside them: for a list
+ * where its addresses begin and how many bytes they have, and the same of its results. An answer is one
+ * such number.
  */
 #define _XOPEN_SOURCE 600
 
@@ -22,7 +23,7 @@
 #include <sys/time.h>
 #include <unistd.h>
 
-enum { CLEAR, ADD, WITHDRAW, CHANGE, VECTOR, LOOKUP };
+enum { CLEAR, ADD, WITHDRAW, CHANGE, VECTOR, LOOKUP, LOOKUP_LIST };
 
 enum { NUMBERS = 16, SECONDS_TO_END = 20, CALLS_BETWEEN = 256 };
 
@@ -46,6 +47,9 @@ static uint64_t answer(uint8_t *memory, const uint64_t n[NUMBERS])
     case CHANGE: return gateway_change(k, d, e, s, a, b, c, counters, n[9], words, n[11], asked, length, hop);
     case VECTOR: return gateway_match_vector(k, d, e, s, a, b, c, counters, n[9], bytes, n[11], asked);
     case LOOKUP: return gateway_lookup(k, d, e, s, a, b, c, counters, n[9], bytes, n[11], asked);
+    case LOOKUP_LIST:
+        return gateway_lookup_list(k, d, e, s, a, b, c, counters, n[9], bytes, n[11], memory + n[12], n[13],
+                                   memory + n[14], n[15]);
     default: errno = EINVAL; fail("an unknown call"); return 0;
     }
 }

@@ -34,6 +34,46 @@ impl Call {
     }
 }
 
+/// A list of addresses and its results, as they cross from C: any bytes, which begin so many bytes after a
+/// word's address.
+#[derive(Clone, Debug)]
+pub struct List {
+    pub addresses: Vec<u8>,
+    pub addresses_offset: usize,
+    /// What the results hold before the call.
+    pub results: Vec<u8>,
+    pub results_offset: usize,
+}
+
+/// A call of either kind.
+#[derive(Clone, Copy)]
+pub enum AnyCall<'a> {
+    One(Call),
+    List(&'a List),
+}
+
+impl AnyCall<'_> {
+    /// As above; a list is a question too.
+    pub fn units(&self) -> usize {
+        match self {
+            AnyCall::One(call) => call.units(),
+            AnyCall::List(_) => 4,
+        }
+    }
+}
+
+impl From<Call> for AnyCall<'_> {
+    fn from(call: Call) -> Self {
+        AnyCall::One(call)
+    }
+}
+
+impl<'a> From<&'a List> for AnyCall<'a> {
+    fn from(list: &'a List) -> Self {
+        AnyCall::List(list)
+    }
+}
+
 /// How much memory a call says that it lends: counters in bytes; slots in the call's units.
 #[derive(Clone, Copy, Debug)]
 pub struct Lent {

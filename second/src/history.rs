@@ -1,13 +1,15 @@
 //! Random histories. A seed and a number fix a history, so that a failing one can be replayed.
 
-use crate::calls::{Call, Lent, Settings};
+use crate::calls::{AnyCall, Call, Lent, Settings};
 use crate::library::{Area, Library, MARGIN};
-use crate::pair::{Answer, Difference, Pair};
+use crate::pair::{Difference, Pair};
 use crate::random::Random;
+use crate::random_lists;
 use crate::routes::Routes;
 use crate::rules;
 use crate::slips::Slip;
 use crate::tally::Tally;
+use crate::told::{told, Answer};
 use std::fmt;
 
 /// A call at which the library and this program differ.
@@ -31,6 +33,9 @@ const COUNTS: [u8; 11] = [0, 0, 1, 2, 7, 13, 14, 15, 16, 254, 255];
 
 /// The routes of the histories that fill their tables.
 const MOST_ROUTES: usize = 4000;
+
+/// So many calls of a thousand have a list of addresses.
+const LISTS: usize = 15;
 
 /// How the history runs: what is got wrong on purpose, and whether each call is shown.
 #[derive(Clone, Copy)]
@@ -127,6 +132,18 @@ fn pool(random: &mut Random) -> Vec<(u32, u32)> {
     pool
 }
 
+/// An address that a route of the pool matches, or nearly.
+fn random_address(random: &mut Random, pool: &[(u32, u32)]) -> u32 {
+    let (prefix, length) = random.pick(pool);
+    match random.below(10) {
+        0 => random.word(),
+        1 => prefix,
+        2 => prefix ^ 1 << random.within(0, 31),
+        _ if length == 32 => prefix,
+        _ => prefix | random.word() >> length,
+    }
+}
+
 impl History<'_> {
     fn run(mut self) -> Result<(), Failure> {
         let size = rules::counter_bytes(&self.t) + 4 * rules::slot_words(&self.t);
@@ -151,6 +168,10 @@ impl History<'_> {
             } else if made > damaged_from && self.random.percent(4) {
                 self.damage(&mut pair);
             }
+            if self.random.below(1000) < LISTS {
+                self.list_call(&mut pair, made > damaged_from)?;
+                continue;
+            }
             let call = self.random_call(&pair);
             if self.random.percent(9) {
                 self.spoilt_call(&mut pair, call)?;
@@ -162,9 +183,7 @@ impl History<'_> {
                 self.call(&mut pair, call)?;
             }
             if call.units() == 4 && self.random.below(size) < 64 {
-                let offset = self.random.within(1, 3) as usize;
-                let asked = pair.ask_unaligned(self.library, call, offset);
-                asked.map_err(|difference| self.failure(&self.t, pair.lent(call), call, difference))?;
+                self.ask_unaligned(&mut pair, call)?;
             }
         }
         if damaged_from == calls {
@@ -197,14 +216,25 @@ impl History<'_> {
         self.call_with(pair, &t, lent, call)
     }
 
-    fn call_with(&mut self, pair: &mut Pair, t: &Settings, lent: Lent, call: Call) -> Result<u64, Failure> {
+    fn call_with<'a>(
+        &mut self,
+        pair: &mut Pair,
+        t: &Settings,
+        lent: Lent,
+        call: impl Into<AnyCall<'a>>,
+    ) -> Result<u64, Failure> {
+        let call = call.into();
         if self.manner.show {
             say!("call {}: {}", self.made, told(t, lent, call));
         }
-        match pair.call(self.library, t, lent, call) {
+        let answered = match call {
+            AnyCall::One(call) => pair.call(self.library, t, lent, call),
+            AnyCall::List(list) => pair.call_list(self.library, t, lent, list).map(|listed| listed.answer),
+        };
+        match answered {
             Ok(answer) => {
                 if self.manner.show {
-                    say!("  {}", Answer(call, answer));
+                    say!("  {}", Answer::to(call, answer));
                 }
                 self.tally.count(call, answer);
                 self.made += 1;
@@ -214,7 +244,20 @@ impl History<'_> {
         }
     }
 
-    fn failure(&self, t: &Settings, lent: Lent, call: Call, difference: Difference) -> Failure {
+    /// Asks again, on slots that do not begin at a word's address.
+    fn ask_unaligned<'a>(&mut self, pair: &mut Pair, call: impl Into<AnyCall<'a>>) -> Result<(), Failure> {
+        let (call, offset) = (call.into(), self.random.within(1, 3) as usize);
+        let asked = pair.ask_unaligned(self.library, call, offset);
+        asked.map_err(|difference| self.failure(&self.t, pair.lent(call), call, difference))
+    }
+
+    fn failure<'a>(
+        &self,
+        t: &Settings,
+        lent: Lent,
+        call: impl Into<AnyCall<'a>>,
+        difference: Difference,
+    ) -> Failure {
         Failure { number: self.made, what: told(t, lent, call), difference: difference.0 }
     }
 
@@ -257,30 +300,51 @@ impl History<'_> {
     }
 
     fn random_address(&mut self) -> u32 {
-        let (prefix, length) = self.random.pick(&self.pool);
-        match self.random.below(10) {
-            0 => self.random.word(),
-            1 => prefix,
-            2 => prefix ^ 1 << self.random.within(0, 31),
-            _ if length == 32 => prefix,
-            _ => prefix | self.random.word() >> length,
-        }
+        random_address(&mut self.random, &self.pool)
     }
 
     /// A call with something wrong about it; never one that other settings would accept.
     fn spoilt_call(&mut self, pair: &mut Pair, mut call: Call) -> Result<u64, Failure> {
-        let mut t = self.t;
         let right = pair.lent(call);
-        let mut lent = right;
+        let (mut t, mut lent) = (self.t, right);
         for _ in 0..self.random.within(1, 3) {
-            match self.random.below(5) {
-                0 => self.spoil_settings(&mut t),
-                1 => lent.counters = self.spoil_size(right.counters),
-                2 => lent.slots = self.spoil_size(right.slots),
-                _ => self.spoil_route(&mut call),
+            if !self.spoil_table(right, &mut t, &mut lent) {
+                self.spoil_route(&mut call);
             }
         }
         self.call_with(pair, &t, lent, call)
+    }
+
+    /// A call with a list of addresses; every third has something wrong about it.
+    fn list_call(&mut self, pair: &mut Pair, damaged: bool) -> Result<(), Failure> {
+        let pool = &self.pool;
+        let mut list = random_lists::list(&mut self.random, |random| random_address(random, pool));
+        let right = pair.lent(&list);
+        let (mut t, mut lent) = (self.t, right);
+        if self.random.percent(35) {
+            random_lists::spoil(&mut self.random, &mut list);
+            for _ in 0..self.random.below(3) {
+                self.spoil_table(right, &mut t, &mut lent);
+            }
+        } else if damaged && self.random.percent(5) {
+            t = self.other_settings();
+        }
+        self.call_with(pair, &t, lent, &list)?;
+        if self.random.percent(6) {
+            self.ask_unaligned(pair, &list)?;
+        }
+        Ok(())
+    }
+
+    /// Spoils the settings or what is lent of the table; false if it leaves both.
+    fn spoil_table(&mut self, right: Lent, t: &mut Settings, lent: &mut Lent) -> bool {
+        match self.random.below(5) {
+            0 => self.spoil_settings(t),
+            1 => lent.counters = self.spoil_size(right.counters),
+            2 => lent.slots = self.spoil_size(right.slots),
+            _ => return false,
+        }
+        true
     }
 
     fn spoil_settings(&mut self, t: &mut Settings) {
@@ -396,31 +460,8 @@ impl History<'_> {
         if new == old {
             return Ok(());
         }
-        let (new, old) = (Answer(call, new), Answer(call, old));
+        let (new, old) = (Answer::to(call, new), Answer::to(call, old));
         let difference = Difference(format!("in a rebuilt table: answer {new}, before it {old}"));
         Err(self.failure(&self.t, pair.lent(call), call, difference))
     }
-}
-
-/// A call in words.
-pub fn told(t: &Settings, lent: Lent, call: Call) -> String {
-    let Settings { k, d, e, s, a, b, c } = t;
-    let asked = match call {
-        Call::Clear => "clear".to_string(),
-        Call::Add { prefix, length, hop } => format!("add {}/{length} hop {hop}", dotted(prefix)),
-        Call::Withdraw { prefix, length } => format!("withdraw {}/{length}", dotted(prefix)),
-        Call::Change { prefix, length, hop } => format!("change {}/{length} hop {hop}", dotted(prefix)),
-        Call::Vector { address } => format!("match vector of {}", dotted(address)),
-        Call::Lookup { address } => format!("lookup of {}", dotted(address)),
-    };
-    let unit = if call.units() == 4 { "bytes" } else { "words" };
-    format!(
-        "{asked}; K {k}, D {d}, E {e}, S {s}, A {a}, B {b}, C {c}; lent {} counters, {} {unit} of slots",
-        lent.counters, lent.slots
-    )
-}
-
-fn dotted(address: u32) -> String {
-    let [a, b, c, d] = address.to_be_bytes();
-    format!("{a}.{b}.{c}.{d}")
 }

@@ -2,15 +2,15 @@
 //! the same memory, so that what the library writes is seen here, and a call that brings that process
 //! down is told as any other difference.
 
-use crate::calls::{Call, Lent, Settings};
+use crate::calls::{AnyCall, Call, Lent, Settings};
 use std::fs::{self, File, OpenOptions};
 use std::io::{self, Read, Write};
 use std::os::fd::AsRawFd;
 use std::path::Path;
 use std::process::{Child, ChildStdin, ChildStdout, Command, Stdio};
 
-/// Bytes before and after the counters, and words before and after the slots, that nothing may touch.
-/// They leave room for a call that is told of more memory than its table has.
+/// Bytes before and after the counters, a list's addresses and its results, and words before and after the
+/// slots, that nothing may touch. They leave room for a call that is told of more memory than its table has.
 pub const MARGIN: usize = 64;
 
 /// Room for the counters, and for the slots in words, of the largest table.
@@ -20,6 +20,17 @@ const MOST_SLOTS: usize = 64 * (1 << 8) * 8 + 1 + 2 * MARGIN;
 /// One table's counters and then its slots.
 const AREA: usize = (MOST_COUNTERS + 4 * MOST_SLOTS).next_multiple_of(4096);
 const AREAS: usize = 3;
+
+/// How many addresses the longest list has. There is room for their bytes, and twice the room for its
+/// results, since a list may be told of more than it needs.
+pub const MOST_LISTED: usize = 5000;
+const MOST_ADDRESSES: usize = (4 * MOST_LISTED + 2 * MARGIN).next_multiple_of(4096);
+const MOST_RESULTS: usize = (32 * MOST_LISTED + 2 * MARGIN).next_multiple_of(4096);
+
+/// Where in the memory a list's addresses and results lie, and where it ends.
+const ADDRESSES: usize = AREAS * AREA;
+const RESULTS: usize = ADDRESSES + MOST_ADDRESSES;
+const END: usize = RESULTS + MOST_RESULTS;
 
 /// Where a table lies in the memory that is lent: an old table, one that is built beside it, or a copy
 /// whose slots do not begin at a word's address.
@@ -65,12 +76,11 @@ impl Library {
     }
 
     fn start_on(host: &Path, path: &Path, file: &File) -> io::Result<Library> {
-        let size = AREAS * AREA;
-        file.set_len(size as u64)?;
-        let memory = map(file, size)?;
+        file.set_len(END as u64)?;
+        let memory = map(file, END)?;
         let mut host = Command::new(host)
             .arg(path)
-            .arg(size.to_string())
+            .arg(END.to_string())
             .stdin(Stdio::piped())
             .stdout(Stdio::piped())
             .spawn()?;
@@ -111,35 +121,55 @@ impl Library {
         unsafe { std::slice::from_raw_parts_mut(words.as_mut_ptr().cast(), size) }
     }
 
+    /// So many bytes of a list's addresses, from their first margin on.
+    pub fn addresses(&mut self, offset: usize, size: usize) -> &mut [u8] {
+        assert!(offset + size <= MOST_ADDRESSES);
+        // Safe: as above.
+        unsafe { std::slice::from_raw_parts_mut(self.memory.add(ADDRESSES + offset), size) }
+    }
+
+    /// So many bytes of a list's results, from their first margin on.
+    pub fn results(&mut self, offset: usize, size: usize) -> &mut [u8] {
+        assert!(offset + size <= MOST_RESULTS);
+        // Safe: as above.
+        unsafe { std::slice::from_raw_parts_mut(self.memory.add(RESULTS + offset), size) }
+    }
+
     /// Does a call in the library, on what is lent of an area after its margins.
-    pub fn call(&mut self, area: Area, t: &Settings, lent: Lent, call: Call) -> io::Result<u64> {
+    pub fn call<'a>(
+        &mut self,
+        area: Area,
+        t: &Settings,
+        lent: Lent,
+        call: impl Into<AnyCall<'a>>,
+    ) -> io::Result<u64> {
         self.call_at(area, 0, t, lent, call)
     }
 
     /// Does a call on slots that begin so many bytes after their place.
-    pub fn call_at(
+    pub fn call_at<'a>(
         &mut self,
         area: Area,
         offset: usize,
         t: &Settings,
         lent: Lent,
-        call: Call,
+        call: impl Into<AnyCall<'a>>,
     ) -> io::Result<u64> {
+        let call = call.into();
         assert!(lent.counters + MARGIN <= MOST_COUNTERS);
         assert!(lent.slots.div_ceil(call.units()) + MARGIN <= MOST_SLOTS);
-        let (number, asked, length, hop) = match call {
-            Call::Clear => (0, 0, 0, 0),
-            Call::Add { prefix, length, hop } => (1, prefix, length, hop),
-            Call::Withdraw { prefix, length } => (2, prefix, length, 0),
-            Call::Change { prefix, length, hop } => (3, prefix, length, hop),
-            Call::Vector { address } => (4, address, 0, 0),
-            Call::Lookup { address } => (5, address, 0, 0),
+        let (number, beside) = match call {
+            AnyCall::One(call) => numbers(call),
+            AnyCall::List(list) => {
+                let addresses = ADDRESSES + MARGIN + list.addresses_offset;
+                let results = RESULTS + MARGIN + list.results_offset;
+                (6, [addresses, list.addresses.len(), results, list.results.len()].map(|n| n as u64))
+            }
         };
         let counters = area as usize * AREA + MARGIN;
         let slots = area as usize * AREA + MOST_COUNTERS + 4 * MARGIN + offset;
         let settings = [t.k, t.d, t.e, t.s, t.a, t.b, t.c].map(u64::from);
         let memory = [counters, lent.counters, slots, lent.slots].map(|n| n as u64);
-        let beside = [asked, length, hop, 0].map(u64::from);
         let mut request = [0; 128];
         let numbers = [number].into_iter().chain(settings).chain(memory).chain(beside);
         for (bytes, number) in request.chunks_exact_mut(8).zip(numbers) {
@@ -156,6 +186,19 @@ impl Library {
         )?;
         Ok(u64::from_ne_bytes(answer))
     }
+}
+
+/// A call's number, and what it is asked.
+fn numbers(call: Call) -> (u64, [u64; 4]) {
+    let (number, asked, length, hop) = match call {
+        Call::Clear => (0, 0, 0, 0),
+        Call::Add { prefix, length, hop } => (1, prefix, length, hop),
+        Call::Withdraw { prefix, length } => (2, prefix, length, 0),
+        Call::Change { prefix, length, hop } => (3, prefix, length, hop),
+        Call::Vector { address } => (4, address, 0, 0),
+        Call::Lookup { address } => (5, address, 0, 0),
+    };
+    (number, [asked, length, hop, 0].map(u64::from))
 }
 
 impl Drop for Library {

@@ -1,12 +1,16 @@
 //! One table twice: the library's memory and this program's own. Each call is done in both, and the
 //! answers and all of the memory are compared after it.
 
-use crate::calls::{Call, Lent, Settings};
+use crate::calls::{AnyCall, Call, Lent, List, Settings};
 use crate::library::{Area, Library, MARGIN};
+use crate::lists::answer_list;
+use crate::places::{places, Place};
 use crate::routes::Routes;
 use crate::rules::{self, counter_bytes, slot_words};
 use crate::slips::Slip;
-use std::fmt;
+use crate::told::{dotted, Answer, Parts};
+use std::collections::HashMap;
+use std::{fmt, io};
 
 pub struct Pair {
     t: Settings,
@@ -21,6 +25,18 @@ pub struct Pair {
 
 /// What differs after a call, in words.
 pub struct Difference(pub String);
+
+impl From<io::Error> for Difference {
+    fn from(error: io::Error) -> Difference {
+        Difference(error.to_string())
+    }
+}
+
+/// What a list is answered, and the results that it leaves.
+pub struct Listed {
+    pub answer: u64,
+    pub results: Vec<u8>,
+}
 
 impl Pair {
     /// A table of these settings, whose memory holds what the two functions say.
@@ -40,8 +56,8 @@ impl Pair {
     }
 
     /// What this table's calls lend.
-    pub fn lent(&self, call: Call) -> Lent {
-        Lent { counters: counter_bytes(&self.t), slots: call.units() * slot_words(&self.t) }
+    pub fn lent<'a>(&self, call: impl Into<AnyCall<'a>>) -> Lent {
+        Lent { counters: counter_bytes(&self.t), slots: call.into().units() * slot_words(&self.t) }
     }
 
     /// A counter; it is the same in both memories after a call.
@@ -74,20 +90,84 @@ impl Pair {
         lent: Lent,
         call: Call,
     ) -> Result<u64, Difference> {
-        let theirs = library.call(self.area, t, lent, call).map_err(|error| Difference(error.to_string()))?;
-        let (counters, slots) = (&mut self.counters[MARGIN..], &mut self.slots[MARGIN..]);
-        let ours = rules::answer(t, counters, slots, lent, call, self.slip);
-        same("answer", Answer(call, theirs), Answer(call, ours))?;
+        let theirs = self.call_in(library, self.area, 0, t, lent, call)?;
         self.compare_memory(library)?;
         self.compare_routes(call, theirs)?;
         Ok(theirs)
+    }
+
+    /// The same with a list of addresses, whose sizes may be wrong too.
+    pub fn call_list(
+        &mut self,
+        library: &mut Library,
+        t: &Settings,
+        lent: Lent,
+        list: &List,
+    ) -> Result<Listed, Difference> {
+        let listed = self.list_in(library, self.area, 0, t, lent, list)?;
+        self.compare_memory(library)?;
+        if listed.answer == 0 {
+            let places = places(list, &listed.results);
+            self.compare_places(&places)?;
+            self.compare_lookups(library, t, lent, &places)?;
+        }
+        Ok(listed)
+    }
+
+    /// Does a call in an area whose slots begin so many bytes after their place, and in this program's own
+    /// memory, and compares the answers.
+    fn call_in(
+        &mut self,
+        library: &mut Library,
+        area: Area,
+        offset: usize,
+        t: &Settings,
+        lent: Lent,
+        call: Call,
+    ) -> Result<u64, Difference> {
+        let theirs = library.call_at(area, offset, t, lent, call)?;
+        let (counters, slots) = (&mut self.counters[MARGIN..], &mut self.slots[MARGIN..]);
+        let ours = rules::answer(t, counters, slots, lent, call, self.slip);
+        same("answer", Answer::to(call, theirs), Answer::to(call, ours))?;
+        Ok(theirs)
+    }
+
+    /// The same with a list of addresses; the addresses and the results are compared as well.
+    fn list_in(
+        &mut self,
+        library: &mut Library,
+        area: Area,
+        offset: usize,
+        t: &Settings,
+        lent: Lent,
+        list: &List,
+    ) -> Result<Listed, Difference> {
+        let (addresses, mut results) = (with_margins(&list.addresses), with_margins(&list.results));
+        library.addresses(list.addresses_offset, addresses.len()).copy_from_slice(&addresses);
+        library.results(list.results_offset, results.len()).copy_from_slice(&results);
+        let answer = library.call_at(area, offset, t, lent, list)?;
+        let (counters, slots) = (&mut self.counters[MARGIN..], &mut self.slots[MARGIN..]);
+        let lent_results = MARGIN..MARGIN + list.results.len();
+        let own = &mut results[lent_results.clone()];
+        let ours = answer_list(t, counters, slots, lent, &list.addresses, own, self.slip);
+        same("answer", Answer::to(list, answer), Answer::to(list, ours))?;
+        compare_lent("address byte", library.addresses(list.addresses_offset, addresses.len()), &addresses)?;
+        let theirs = &*library.results(list.results_offset, results.len());
+        if answer == 0 {
+            let ours = places(list, &results[lent_results.clone()]);
+            for (theirs, ours) in places(list, &theirs[lent_results.clone()]).iter().zip(ours) {
+                theirs.same("own", ours.parts)?;
+            }
+        }
+        compare_lent("result byte", theirs, &results)?;
+        Ok(Listed { answer, results: results[lent_results].to_vec() })
     }
 
     /// Asks a question on a copy of the table whose slots do not begin at a word's address.
     pub fn ask_unaligned(
         &mut self,
         library: &mut Library,
-        call: Call,
+        call: AnyCall,
         offset: usize,
     ) -> Result<(), Difference> {
         library.counters(Area::Unaligned, self.counters.len()).copy_from_slice(&self.counters);
@@ -96,27 +176,17 @@ impl Pair {
         for (bytes, word) in bytes[offset..].chunks_exact_mut(4).zip(slots) {
             bytes.copy_from_slice(&word.to_le_bytes());
         }
-        let lent = self.lent(call);
-        let theirs = library
-            .call_at(Area::Unaligned, offset, &self.t, lent, call)
-            .map_err(|error| Difference(error.to_string()))?;
-        let (counters, slots) = (&mut self.counters[MARGIN..], &mut self.slots[MARGIN..]);
-        let ours = rules::answer(&self.t, counters, slots, lent, call, self.slip);
-        same("answer on unaligned slots", Answer(call, theirs), Answer(call, ours))
+        let (t, lent) = (self.t, self.lent(call));
+        let asked = match call {
+            AnyCall::One(call) => self.call_in(library, Area::Unaligned, offset, &t, lent, call).err(),
+            AnyCall::List(list) => self.list_in(library, Area::Unaligned, offset, &t, lent, list).err(),
+        };
+        asked.map_or(Ok(()), |Difference(what)| Err(Difference(format!("on unaligned slots, {what}"))))
     }
 
     fn compare_memory(&self, library: &mut Library) -> Result<(), Difference> {
-        let theirs = &*library.counters(self.area, self.counters.len());
-        if *theirs != *self.counters {
-            let at = first_difference(theirs, &self.counters);
-            return same(&place("counter byte", at, counter_bytes(&self.t)), theirs[at], self.counters[at]);
-        }
-        let theirs = &*library.slots(self.area, self.slots.len());
-        if *theirs != *self.slots {
-            let at = first_difference(theirs, &self.slots);
-            return same(&place("slot word", at, slot_words(&self.t)), theirs[at], self.slots[at]);
-        }
-        Ok(())
+        compare_lent("counter byte", library.counters(self.area, self.counters.len()), &self.counters)?;
+        compare_lent("slot word", library.slots(self.area, self.slots.len()), &self.slots)
     }
 
     /// Holds a call of well-formed input to the list of stored routes.
@@ -133,7 +203,39 @@ impl Pair {
             Call::Vector { address } => routes.vector(address),
             update => routes.update(update) << 48,
         };
-        same("answer, held to the list of stored routes", Answer(call, theirs), Answer(call, listed))
+        same("answer, held to the list of stored routes", Answer::to(call, theirs), Answer::to(call, listed))
+    }
+
+    /// Holds each answer of a list to the list of stored routes.
+    fn compare_places(&self, places: &[Place]) -> Result<(), Difference> {
+        let Some(routes) = &self.routes else {
+            return Ok(());
+        };
+        let mut known = HashMap::new();
+        for place in places {
+            let listed = known.entry(place.address).or_insert_with_key(|address| routes.lookup(*address));
+            place.same("the stored routes", Parts::of_number(*listed))?;
+        }
+        Ok(())
+    }
+
+    /// Holds the first, the middle and the last answer of a list to lookups of the library.
+    fn compare_lookups(
+        &self,
+        library: &mut Library,
+        t: &Settings,
+        lent: Lent,
+        places: &[Place],
+    ) -> Result<(), Difference> {
+        let mut some = vec![0, places.len() / 2, places.len().saturating_sub(1)];
+        some.dedup();
+        for place in some.into_iter().filter_map(|at| places.get(at)) {
+            let call = Call::Lookup { address: place.address };
+            let number = library.call(self.area, t, lent, call)?;
+            same(&format!("refusal of a lookup of {}", dotted(place.address)), number >> 48, 0)?;
+            place.same("a lookup", Parts::of_number(number))?;
+        }
+        Ok(())
     }
 
     /// Holds the counters of each length to the list: they sum to K for each stored route.
@@ -150,8 +252,19 @@ impl Pair {
     }
 }
 
-fn first_difference<T: PartialEq>(one: &[T], other: &[T]) -> usize {
-    one.iter().zip(other).position(|(a, b)| a != b).expect("they differ")
+/// Bytes with margins whose content no call writes: a word of the results has zeros in its high bytes.
+fn with_margins(bytes: &[u8]) -> Vec<u8> {
+    let margin = || (0..MARGIN).map(|at| 0x80 + at as u8);
+    margin().chain(bytes.iter().copied()).chain(margin()).collect()
+}
+
+/// Compares what both have of something lent, with its margins.
+fn compare_lent<T: PartialEq + fmt::Display>(what: &str, theirs: &[T], ours: &[T]) -> Result<(), Difference> {
+    if *theirs == *ours {
+        return Ok(());
+    }
+    let at = theirs.iter().zip(ours).position(|(a, b)| a != b).expect("they differ");
+    same(&place(what, at, ours.len() - 2 * MARGIN), &theirs[at], &ours[at])
 }
 
 /// The name of a place in memory that has margins.
@@ -170,32 +283,4 @@ fn same<T: PartialEq + fmt::Display>(what: &str, theirs: T, ours: T) -> Result<(
         return Ok(());
     }
     Err(Difference(format!("{what}: library {theirs}, own {ours}")))
-}
-
-/// A call's answer, to be shown taken apart.
-pub struct Answer(pub Call, pub u64);
-
-impl PartialEq for Answer {
-    fn eq(&self, other: &Answer) -> bool {
-        self.1 == other.1
-    }
-}
-
-impl fmt::Display for Answer {
-    fn fmt(&self, f: &mut fmt::Formatter) -> fmt::Result {
-        let Answer(call, n) = self;
-        write!(f, "{n:#x} (refusal {}", n >> 48)?;
-        match call {
-            Call::Lookup { .. } => write!(
-                f,
-                ", found {}, hop {}, length {}, probes {})",
-                n >> 40 & 0xff,
-                n >> 16 & 0xff_ffff,
-                n >> 8 & 0xff,
-                n & 0xff
-            ),
-            Call::Vector { .. } => write!(f, ", vector {})", n & 0xffff_ffff_ffff),
-            _ => write!(f, ")"),
-        }
-    }
 }

@@ -1,50 +1,75 @@
 //! What a run has seen. A run that never met a refusal or a kind of answer has compared nothing there.
 
-use crate::calls::Call;
+use crate::calls::{AnyCall, Call};
 use std::fmt;
 
-const CALLS: [&str; 6] = ["clear", "add", "withdraw", "change", "match vector", "lookup"];
+const CALLS: [&str; 7] = ["clear", "add", "withdraw", "change", "match vector", "lookup", "list"];
 
 /// The refusals that each call can give.
-const GIVES: [&[usize]; 6] = [
+const GIVES: [&[usize]; CALLS.len()] = [
     &[0, 1, 2],
     &[0, 1, 2, 3, 4, 5, 6, 8, 9],
     &[0, 1, 2, 3, 4, 7, 10],
     &[0, 1, 2, 3, 4, 5, 7],
     &[0, 1, 2],
     &[0, 1, 2],
+    &[0, 1, 2, 18],
 ];
+
+/// How many refusals are counted apart; any above them counts as the last.
+const REFUSALS: usize = 20;
 
 #[derive(Default)]
 pub struct Tally {
     pub histories: u64,
-    given: [[u64; 16]; 6],
+    given: [[u64; REFUSALS]; CALLS.len()],
     none: u64,
     default: u64,
     longer: u64,
     most_probes: u64,
+    /// Accepted lists of no address, of one, and of more.
+    empty: u64,
+    single: u64,
+    many: u64,
+    most_addresses: usize,
 }
 
 impl Tally {
-    pub fn count(&mut self, call: Call, answer: u64) {
+    pub fn count(&mut self, call: AnyCall, answer: u64) {
         let row = match call {
-            Call::Clear => 0,
-            Call::Add { .. } => 1,
-            Call::Withdraw { .. } => 2,
-            Call::Change { .. } => 3,
-            Call::Vector { .. } => 4,
-            Call::Lookup { .. } => 5,
+            AnyCall::One(Call::Clear) => 0,
+            AnyCall::One(Call::Add { .. }) => 1,
+            AnyCall::One(Call::Withdraw { .. }) => 2,
+            AnyCall::One(Call::Change { .. }) => 3,
+            AnyCall::One(Call::Vector { .. }) => 4,
+            AnyCall::One(Call::Lookup { .. }) => 5,
+            AnyCall::List(_) => 6,
         };
         let refusal = (answer >> 48) as usize;
-        self.given[row][refusal.min(15)] += 1;
-        if row == 5 && refusal == 0 {
-            match (answer >> 40 & 1, answer >> 8 & 0xff) {
-                (0, _) => self.none += 1,
-                (_, 0) => self.default += 1,
-                _ => self.longer += 1,
-            }
-            self.most_probes = self.most_probes.max(answer & 0xff);
+        self.given[row][refusal.min(REFUSALS - 1)] += 1;
+        match call {
+            AnyCall::One(Call::Lookup { .. }) if refusal == 0 => self.count_lookup(answer),
+            AnyCall::List(list) if refusal == 0 => self.count_list(list.addresses.len() / 4),
+            _ => {}
         }
+    }
+
+    fn count_lookup(&mut self, answer: u64) {
+        match (answer >> 40 & 1, answer >> 8 & 0xff) {
+            (0, _) => self.none += 1,
+            (_, 0) => self.default += 1,
+            _ => self.longer += 1,
+        }
+        self.most_probes = self.most_probes.max(answer & 0xff);
+    }
+
+    fn count_list(&mut self, addresses: usize) {
+        match addresses {
+            0 => self.empty += 1,
+            1 => self.single += 1,
+            _ => self.many += 1,
+        }
+        self.most_addresses = self.most_addresses.max(addresses);
     }
 
     pub fn calls(&self) -> u64 {
@@ -58,9 +83,16 @@ impl Tally {
                 return Some(format!("no {} gave {refusal}", CALLS[row]));
             }
         }
-        let answers = [(self.none, "none"), (self.default, "the default"), (self.longer, "a route")];
-        let missed = answers.iter().find(|(times, _)| *times == 0);
-        missed.map(|(_, answer)| format!("no lookup answered {answer}"))
+        let met = [
+            (self.none, "lookup answered none"),
+            (self.default, "lookup answered the default"),
+            (self.longer, "lookup answered a route"),
+            (self.empty, "list of no address was accepted"),
+            (self.single, "list of one address was accepted"),
+            (self.many, "list of more addresses was accepted"),
+        ];
+        let missed = met.iter().find(|(times, _)| *times == 0);
+        missed.map(|(_, what)| format!("no {what}"))
     }
 }
 
@@ -83,10 +115,15 @@ impl fmt::Display for Tally {
             }
             writeln!(f)?;
         }
-        write!(
+        writeln!(
             f,
             "  lookups: a route {}, the default {}, none {}, at most {} probes",
             self.longer, self.default, self.none, self.most_probes
+        )?;
+        write!(
+            f,
+            "  lists: of no address {}, of one {}, of more {}, at most {} addresses",
+            self.empty, self.single, self.many, self.most_addresses
         )
     }
 }

@@ -1,12 +1,13 @@
 //! The worked cases of docs/TABLE.md, with the answers that it states: they hold both the library and this
 //! program's own rules.
 
-use crate::calls::{Call, Lent, Settings};
-use crate::history::told;
+use crate::calls::{AnyCall, Call, Lent, List, Settings};
 use crate::library::{Area, Library};
-use crate::pair::{Answer, Pair};
+use crate::pair::Pair;
+use crate::places::{bytes_of, places};
 use crate::routes::Routes;
 use crate::rules::{bucket, counter_at, first_slot, positions, T};
+use crate::told::{told, Answer};
 
 fn address(a: u8, b: u8, c: u8, d: u8) -> u32 {
     u32::from_be_bytes([a, b, c, d])
@@ -18,6 +19,17 @@ fn refused(number: u64) -> u64 {
 
 fn found(hop: u64, length: u64, probes: u64) -> u64 {
     (1 << 40) + (hop << 16) + (length << 8) + probes
+}
+
+/// Sizes that are wrong by one.
+fn one_off(Lent { counters, slots }: Lent) -> [Lent; 4] {
+    [(counters + 1, slots), (counters - 1, slots), (counters, slots + 1), (counters, slots - 1)]
+        .map(|(counters, slots)| Lent { counters, slots })
+}
+
+/// A list whose results hold something before the call.
+fn list_of(addresses: Vec<u8>, results: usize) -> List {
+    List { addresses, addresses_offset: 0, results: vec![7; results], results_offset: 0 }
 }
 
 /// One case: a table that begins cleared.
@@ -43,15 +55,29 @@ impl<'a> Case<'a> {
     }
 
     fn gives_lent(&mut self, lent: Lent, call: Call, answer: u64) -> Result<(), String> {
-        let told = |what: String| format!("{}: {}\n  {what}", self.name, told(&self.t, lent, call));
-        match self.pair.call(self.library, &self.t, lent, call) {
-            Err(difference) => Err(told(difference.0)),
-            Ok(given) if given != answer => {
-                let (given, answer) = (Answer(call, given), Answer(call, answer));
-                Err(told(format!("answer: {given}, in the document {answer}")))
-            }
-            Ok(_) => Ok(()),
+        let given = self.pair.call(self.library, &self.t, lent, call);
+        let given = given.map_err(|difference| self.wrong(lent, call, difference.0))?;
+        self.documented(lent, call, given, answer)
+    }
+
+    /// An answer is that of the document.
+    fn documented<'c>(
+        &self,
+        lent: Lent,
+        call: impl Into<AnyCall<'c>>,
+        given: u64,
+        answer: u64,
+    ) -> Result<(), String> {
+        if given == answer {
+            return Ok(());
         }
+        let call = call.into();
+        let (given, answer) = (Answer::to(call, given), Answer::to(call, answer));
+        Err(self.wrong(lent, call, format!("answer: {given}, in the document {answer}")))
+    }
+
+    fn wrong<'c>(&self, lent: Lent, call: impl Into<AnyCall<'c>>, what: String) -> String {
+        format!("{}: {}\n  {what}", self.name, told(&self.t, lent, call))
     }
 
     fn add(&mut self, prefix: u32, length: u32, hop: u32, refusal: u64) -> Result<(), String> {
@@ -64,6 +90,30 @@ impl<'a> Case<'a> {
 
     fn vector(&mut self, address: u32, vector: u64) -> Result<(), String> {
         self.gives(Call::Vector { address }, vector)
+    }
+
+    /// A list of addresses gives these answers.
+    fn list(&mut self, addresses: &[u32], answers: &[[u32; 4]]) -> Result<(), String> {
+        let results = bytes_of(&answers.concat());
+        let list = list_of(bytes_of(addresses), results.len());
+        self.list_gives(self.pair.lent(&list), &list, 0, &results)
+    }
+
+    /// A list of these bytes and so many of results is refused with 18, and leaves its results.
+    fn list_refused(&mut self, addresses: &[u8], results: usize) -> Result<(), String> {
+        let list = list_of(addresses.to_vec(), results);
+        self.list_gives(self.pair.lent(&list), &list, refused(18), &list.results)
+    }
+
+    fn list_gives(&mut self, lent: Lent, list: &List, answer: u64, results: &[u8]) -> Result<(), String> {
+        let given = self.pair.call_list(self.library, &self.t, lent, list);
+        let given = given.map_err(|difference| self.wrong(lent, list, difference.0))?;
+        self.documented(lent, list, given.answer, answer)?;
+        for (given, document) in places(list, &given.results).iter().zip(places(list, results)) {
+            let same = given.same("the document", document.parts);
+            same.map_err(|difference| self.wrong(lent, list, difference.0))?;
+        }
+        self.holds(given.results == results, "the results of a list")
     }
 
     fn holds(&self, right: bool, what: &str) -> Result<(), String> {
@@ -103,6 +153,23 @@ pub fn run(library: &mut Library) -> Result<(), String> {
     case.add(0, 0, 3, 0)?;
     case.lookup(address(11, 0, 0, 1), found(3, 0, 0))?;
 
+    let mut case = Case::new(library, "P4 to P7 as lists", T)?;
+    let four = [address(8, 1, 2, 3), address(10, 1, 2, 3), address(10, 2, 2, 3), address(11, 0, 0, 1)];
+    case.add(ten, 8, 7, 0)?;
+    case.list(&four[..1], &[[0, 0, 0, 1]])?;
+    case.add(address(10, 1, 0, 0), 16, 9, 0)?;
+    case.list(&four, &[[0, 0, 0, 2], [1, 9, 16, 1], [1, 7, 8, 2], [0, 0, 0, 0]])?;
+    case.add(0, 0, 3, 0)?;
+    case.list(&four, &[[1, 3, 0, 2], [1, 9, 16, 1], [1, 7, 8, 2], [1, 3, 0, 0]])?;
+    case.list(&[], &[])?;
+    let bytes = bytes_of(&four);
+    for results in [0, 48, 60, 63, 65, 68, 80] {
+        case.list_refused(&bytes, results)?;
+    }
+    for (addresses, results) in [(15, 60), (15, 48), (15, 0), (1, 4), (1, 0), (0, 1), (0, 16)] {
+        case.list_refused(&bytes[..addresses], results)?;
+    }
+
     let mut case = Case::new(library, "P8", T)?;
     let (eight, nine) = (address(8, 0, 0, 0), address(9, 0, 0, 0));
     case.add(ten, 8, 7, 0)?;
@@ -138,11 +205,14 @@ pub fn run(library: &mut Library) -> Result<(), String> {
     case.add(ten, 8, 65_536, 5)?;
     case.add(ten, 8, 65_535, 0)?;
     for call in [Call::Clear, Call::Vector { address: ten }, Call::Lookup { address: ten }] {
-        let Lent { counters, slots } = case.pair.lent(call);
-        for (counters, slots) in
-            [(counters + 1, slots), (counters - 1, slots), (counters, slots + 1), (counters, slots - 1)]
-        {
-            case.gives_lent(Lent { counters, slots }, call, refused(2))?;
+        for lent in one_off(case.pair.lent(call)) {
+            case.gives_lent(lent, call, refused(2))?;
+        }
+    }
+    for results in [16, 17] {
+        let list = list_of(bytes_of(&[ten]), results);
+        for lent in one_off(case.pair.lent(&list)) {
+            case.list_gives(lent, &list, refused(2), &list.results)?;
         }
     }
     Ok(())
