@@ -126,14 +126,17 @@ impl Routes {
 
     fn add(&mut self, prefix: u32, length: u32, hop: u32) -> u64 {
         let new = self.route(prefix, length, hop);
-        if let Some(at) = self.find(prefix, length, Slip::PaperSixByPrefix) {
+        if let Some(at) = self.find(prefix, length, Slip::PaperAddAnyLength) {
             match self.slip {
-                Some(Slip::PaperSixUnasked) => (),
-                Some(Slip::PaperAddReplaces) => {
+                Some(Slip::PaperReplaceListsAgain) => (),
+                Some(Slip::PaperReplaceRefused) => return 6,
+                Some(Slip::PaperDefaultReplaceRefused) if length == 0 => return 6,
+                Some(Slip::PaperReplaceAsksRoom) if self.room(&new) != 0 => return self.room(&new),
+                Some(Slip::PaperReplaceKeeps) => return 0,
+                _ => {
                     self.list[at].hop = hop;
                     return 0;
                 }
-                _ => return 6,
             }
         }
         let refusal = self.room(&new);

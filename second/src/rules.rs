@@ -173,7 +173,7 @@ pub fn answer(
         Call::Lookup { address } => return table.lookup(address),
         _ if slip == Some(Slip::ShamWritesNothing) => (),
         Call::Clear => table.clear(),
-        Call::Add { .. } => table.add(p, length, hop),
+        Call::Add { .. } => table.add(call, asked),
         Call::Withdraw { .. } => table.withdraw(p, length),
         Call::Change { .. } => table.change(p, length, hop),
     }
@@ -208,7 +208,10 @@ impl Asked {
 fn numbers(call: Call, slip: Option<Slip>) -> Vec<u64> {
     let mut order = match call {
         Call::Clear | Call::Vector { .. } | Call::Lookup { .. } => vec![1, 2],
-        Call::Add { .. } => vec![1, 2, 3, 4, 5, 6, 8, 9],
+        Call::Add { .. } => match slip {
+            Some(Slip::ReplaceRefused | Slip::DefaultReplaceRefused) => vec![1, 2, 3, 4, 5, 6, 8, 9],
+            _ => vec![1, 2, 3, 4, 5, 8, 9],
+        },
         Call::Withdraw { .. } => vec![1, 2, 3, 4, 7, 10],
         Call::Change { .. } => vec![1, 2, 3, 4, 5, 7],
     };
@@ -249,17 +252,29 @@ impl Table<'_> {
     fn given(&self, number: u64, lent: Lent, call: Call, asked: Asked) -> bool {
         let Asked { p, length, hop } = asked;
         let from_one = |slip: Slip| length >= 1 || self.is(slip);
+        let stored = || self.stored(p, length, call);
+        let unstored = |slip: Slip| !stored() || self.is(slip);
         match number {
             1 => self.settings_bad(),
             2 => self.sizes_wrong(lent, call),
             3 => self.too_long(length),
             4 => self.bit_after(p, length),
+            5 if self.is(Slip::ReplaceHopUnasked) && matches!(call, Call::Add { .. }) && stored() => false,
             5 => self.hop_too_big(hop),
-            6 => self.stored(p, length, call),
-            7 => !self.stored(p, length, call),
+            // Only slips ask for 6.
+            6 => stored() && (length == 0 || self.is(Slip::ReplaceRefused)),
+            7 => !stored(),
             8 if self.is(Slip::ShamRefusesAdds) => true,
-            8 => from_one(Slip::DefaultAsksBucket) && self.full(p, length.max(1)),
-            9 => from_one(Slip::DefaultAsksRoom) && self.no_room(p, length.max(1)),
+            8 => {
+                unstored(Slip::ReplaceAsksBucket)
+                    && from_one(Slip::DefaultAsksBucket)
+                    && self.full(p, length.max(1))
+            }
+            9 => {
+                unstored(Slip::ReplaceAsksRoom)
+                    && from_one(Slip::DefaultAsksRoom)
+                    && self.no_room(p, length.max(1))
+            }
             _ => from_one(Slip::DefaultAsksHits) && self.too_few(p, length.max(1)),
         }
     }
@@ -324,13 +339,19 @@ impl Table<'_> {
         if length == 0 {
             return self.default_hop().is_some();
         }
-        let claimed = match (self.slip, call) {
-            (Some(Slip::AddAsksFilter), Call::Add { .. }) => self.claimed(length, p),
-            (Some(Slip::WithdrawAsksFilter), Call::Withdraw { .. }) => self.claimed(length, p),
-            (Some(Slip::ChangeAsksFilter), Call::Change { .. }) => self.claimed(length, p),
-            _ => true,
-        };
-        claimed && !self.holding(length, p).is_empty()
+        let holding = self.holding(length, p);
+        let held = !holding.is_empty();
+        match (self.slip, call) {
+            (Some(Slip::ReplaceAddsAgain), Call::Add { .. }) => false,
+            (Some(Slip::ReplaceStopsAtFree), Call::Add { .. }) => {
+                held && self.free(length, p).iter().all(|n| holding[0] < *n)
+            }
+            (Some(Slip::AddTrustsFilter), Call::Add { .. }) => self.claimed(length, p),
+            (Some(Slip::AddAsksFilter), Call::Add { .. }) => held && self.claimed(length, p),
+            (Some(Slip::WithdrawAsksFilter), Call::Withdraw { .. }) => held && self.claimed(length, p),
+            (Some(Slip::ChangeAsksFilter), Call::Change { .. }) => held && self.claimed(length, p),
+            _ => held,
+        }
     }
 
     fn full(&self, p: u32, length: u32) -> bool {
@@ -553,9 +574,13 @@ impl Table<'_> {
         }
     }
 
-    fn add(&mut self, p: u32, length: u32, hop: u32) {
+    fn add(&mut self, call: Call, asked: Asked) {
+        let Asked { p, length, hop } = asked;
         if self.is(Slip::ShamFirstAddOnly) && self.slots.iter().any(|word| *word != 0) {
             return;
+        }
+        if self.stored(p, length, call) {
+            return self.replace(p, length, hop);
         }
         if length == 0 {
             if self.is(Slip::DefaultCounted) {
@@ -563,11 +588,31 @@ impl Table<'_> {
             }
             return self.set_default(self.marked(hop), Slip::DefaultAddUnwritten);
         }
-        if self.is(Slip::AddReplaces) && !self.holding(length, p).is_empty() {
-            return self.change(p, length, hop);
-        }
         self.fill(length, p, hop);
         self.raise(length, p);
+    }
+
+    /// An add of a stored prefix: the lowest slot that holds it gets a new mark.
+    fn replace(&mut self, p: u32, length: u32, hop: u32) {
+        if length == 0 {
+            return self.set_default(self.marked(hop), Slip::DefaultReplaceUnwritten);
+        }
+        match self.slip {
+            Some(Slip::ReplaceUnwritten) => return,
+            Some(Slip::ReplaceTakesFree) => return self.fill(length, p, hop),
+            Some(Slip::ReplaceMoves) => {
+                self.empty(length, p);
+                return self.fill(length, p, hop);
+            }
+            Some(Slip::ReplaceRaises) => self.raise(length, p),
+            Some(Slip::ReplaceMendsFilter) if !self.claimed(length, p) => self.raise(length, p),
+            _ => (),
+        }
+        let holding = self.holding(length, p);
+        let lowest = self.lowest(holding.clone(), Slip::ReplaceHighest).into_iter().collect();
+        for n in self.or(lowest, Slip::ReplaceEverySlot, holding) {
+            self.set_word(self.places(n).1, self.marked(hop));
+        }
     }
 
     fn withdraw(&mut self, p: u32, length: u32) {
