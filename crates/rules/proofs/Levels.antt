@@ -2,23 +2,24 @@
 -- of it and a withdrawal of the same prefix brings it back.
 use Prim.Native.Nat.{ℕ, _+_, _≤_, _<_}
 use mathlib.Core.Path.{_≡_, sym, ap, _∙_}
+use mathlib.Core.Bool.{true}
 use mathlib.Core.List.{List}
 use mathlib.Core.Option.{some}
 use lib.Dec.{ltb}
 use lib.ListN.{length, getD}
 use borrow.Author.Tests.{ltb-false}
 use Rattle.rules.specs.declared.Settings.{Settings}
-use Rattle.rules.specs.Table.{lent, counter-places, hits, passes-15, add-refusal, vacant, added}
+use Rattle.rules.specs.Table.{lent, counter-places, hits, passes-15, needs-slot, add-refusal, vacant, added}
 use Rattle.rules.proofs.Members.{Among, any-false}
 use Rattle.rules.proofs.Placing.{hits-places}
-use Rattle.rules.proofs.Refusals.{from-one, add-passed}
+use Rattle.rules.proofs.Refusals.{add-passed}
 use Rattle.rules.proofs.Steps.{step-up}
 use Rattle.rules.proofs.Updates.{added-slot}
 
-module _ (t : Settings) (counters slots : List ℕ) (p L hop : ℕ) (up : L ≡ 0 → ⊥) (s : ℕ) (there : vacant t slots L p ≡ some s) where
+module _ (t : Settings) (counters slots : List ℕ) (p L hop : ℕ) (needed : needs-slot t slots L p ≡ true) (s : ℕ) (there : vacant t slots L p ≡ some s) where
   pub added-level : (i : ℕ) → i < length counters → getD (added t (lent counters slots) p L hop .counters) i 0 ≡ getD counters i 0 + hits t L p i
   added-level i h =
-      ap (λ m. getD (m .counters) i 0) (added-slot t (lent counters slots) p L hop up s there)
+      ap (λ m. getD (m .counters) i 0) (added-slot t (lent counters slots) p L hop needed s there)
       ∙ step-up counters (counter-places t L p) i h ∙ ap (λ (n : ℕ). getD counters i 0 + n) (sym (hits-places t L p i))
 
   pub added-at-most-15 : add-refusal t (lent counters slots) p L hop ≡ 0 → (i : ℕ) → i < length counters → Among i (counter-places t L p)
@@ -26,5 +27,5 @@ module _ (t : Settings) (counters slots : List ℕ) (p L hop : ℕ) (up : L ≡ 
   unfolding passes-15
   added-at-most-15 accepted i h among =
       let level = add-passed t counters slots p L hop accepted .level in
-      let few = any-false (λ i. ltb 15 (getD counters i 0 + hits t L p i)) (counter-places t L p) (sym (from-one L (passes-15 t counters L p) up) ∙ level) i among in
+      let few = any-false (λ i. ltb 15 (getD counters i 0 + hits t L p i)) (counter-places t L p) (rw needed at level) i among in
       rw (added-level i h) (ltb-false 15 _ few)

@@ -1,7 +1,7 @@
 -- The checks that calls share, as laws: a check passes on what comes after it or gives its own number, and what passed is known.
 use Prim.Native.Nat.{ℕ, suc, _≤_}
 use mathlib.Core.Path.{_≡_, refl, sym, _∙_}
-use mathlib.Core.Bool.{Bool, true, false, not}
+use mathlib.Core.Bool.{Bool, true, false, not, _&&_}
 use mathlib.Core.List.{List}
 use native.Mathlib.Nat.{suc-ne-zero}
 use native.Mathlib.Omega.{arith}
@@ -9,7 +9,7 @@ use lib.Dec.{ltb, eqb}
 use lib.ListN.{length}
 use borrow.Author.Tests.{ltb-false, le-ltb, eqb-true, eq-eqb, ne-eqb, not-false}
 use Rattle.rules.specs.declared.Settings.{Settings}
-use Rattle.rules.specs.Table.{Memory, lent, in-range, counters-size, slots-size, prefix, stored, full, passes-15, runs-short, refuse, from-1, sized, loose, memory-refusal, route-refusal, add-refusal, withdraw-refusal, change-refusal, fourfold, list-refusal, update}
+use Rattle.rules.specs.Table.{Memory, lent, in-range, counters-size, slots-size, prefix, stored, full, passes-15, runs-short, refuse, from-1, needs-slot, sized, loose, memory-refusal, route-refusal, add-refusal, withdraw-refusal, change-refusal, fourfold, list-refusal, update}
 use Rattle.rules.specs.Ready.{Ready, Counters, Slots}
 use Rattle.rules.proofs.Members.{both}
 use Rattle.rules.proofs.Prefixes.{loose-false}
@@ -137,32 +137,24 @@ module _ {checks : ℕ → ℕ} (passing : Passing checks) {given : ℕ} (e : gi
   pub let-by : given ≡ 0 → (after : ℕ) → checks after ≡ after
   let-by good after = passing .accepts (sym e ∙ good) after
 
--- a condition that only length 1 and up can meet, at such a length
-pub from-one : (L : ℕ) (bad : Bool) → (L ≡ 0 → ⊥) → from-1 L bad ≡ bad
-unfolding from-1
-from-one L bad up = simp (ne-eqb _ _ up)
-
 -- what an accepted add tells
 pub record AddFitted (t : Settings) (counters slots : List ℕ) (p L hop : ℕ) : Type 0 where
   pub route : RouteFitted t counters slots L p
   pub small : hop ≤ 65535
-  pub fresh : stored t slots L p ≡ false
-  pub room : from-1 L (full t slots L p) ≡ false
-  pub level : from-1 L (passes-15 t counters L p) ≡ false
+  pub room : needs-slot t slots L p && full t slots L p ≡ false
+  pub level : needs-slot t slots L p && passes-15 t counters L p ≡ false
 
 pub add-passed : (t : Settings) (counters slots : List ℕ) (p L hop : ℕ) → add-refusal t (lent counters slots) p L hop ≡ 0
     → AddFitted t counters slots p L hop
 unfolding add-refusal
 add-passed t counters slots p L hop e =
-    let nine = refuse (from-1 L (passes-15 t counters L p)) 9 0 in
-    let eight = refuse (from-1 L (full t slots L p)) 8 nine in
-    let six = refuse (stored t slots L p) 6 eight in
-    let to4 = route-passed t counters slots L p (refuse (ltb 65535 hop) 5 six) e in
-    let to5 = passed (ltb 65535 hop) 4 six (to4 .1) in
-    let to6 = passed (stored t slots L p) 5 eight (to5 .1) in
-    let to8 = passed (from-1 L (full t slots L p)) 7 nine (to6 .1) in
-    let to9 = passed (from-1 L (passes-15 t counters L p)) 8 0 (to8 .1) in
-    record { route = to4 .0; small = ltb-false _ _ (to5 .0); fresh = to6 .0; room = to8 .0; level = to9 .0 }
+    let nine = refuse (needs-slot t slots L p && passes-15 t counters L p) 9 0 in
+    let eight = refuse (needs-slot t slots L p && full t slots L p) 8 nine in
+    let to4 = route-passed t counters slots L p (refuse (ltb 65535 hop) 5 eight) e in
+    let to5 = passed (ltb 65535 hop) 4 eight (to4 .1) in
+    let to8 = passed (needs-slot t slots L p && full t slots L p) 7 nine (to5 .1) in
+    let to9 = passed (needs-slot t slots L p && passes-15 t counters L p) 8 0 (to8 .1) in
+    record { route = to4 .0; small = ltb-false _ _ (to5 .0); room = to8 .0; level = to9 .0 }
 
 -- an update whose checks gave this number
 module _ (refusal : ℕ) (after before : Memory) {given : ℕ} (e : given ≡ refusal) where
@@ -185,9 +177,9 @@ pub add-order : (t : Settings) (m : Memory) (p L hop : ℕ) → add-refusal t m 
     (refuse (ltb 32 L) 3
     (refuse (loose L p) 4
     (refuse (ltb 65535 hop) 5
-    (refuse (stored t (m .slots) L p) 6
-    (refuse (from-1 L (full t (m .slots) L p)) 8 (refuse (from-1 L (passes-15 t (m .counters) L p)) 9 0))))))
-unfolding add-refusal route-refusal
+    (refuse (from-1 L (not (stored t (m .slots) L p)) && full t (m .slots) L p) 8
+    (refuse (from-1 L (not (stored t (m .slots) L p)) && passes-15 t (m .counters) L p) 9 0)))))
+unfolding add-refusal route-refusal needs-slot
 add-order t m p L hop = refl
 
 pub withdraw-order : (t : Settings) (m : Memory) (p L : ℕ) → withdraw-refusal t m p L

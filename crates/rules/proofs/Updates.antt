@@ -1,28 +1,60 @@
 -- What each update leaves past its checks, and how it ends by what its checks and its search of the bucket found.
-use Prim.Native.Nat.{ℕ, _+_, _-_}
-use mathlib.Core.Path.{_≡_, _∙_}
-use mathlib.Core.Bool.{true, false, not}
-use mathlib.Core.List.{List}
+use Prim.Native.Nat.{ℕ, zero, suc, _+_, _-_}
+use mathlib.Core.Path.{_≡_, refl, sym, ap, _∙_}
+use mathlib.Core.Bool.{Bool, true, false, cond, not}
+use mathlib.Core.List.{List, [], _∷_}
 use mathlib.Core.Option.{some, none}
-use lib.Dec.{ltb}
-use lib.ListN.{set}
-use borrow.Author.Tests.{eq-eqb, ne-eqb, le-ltb}
+use lib.Dec.{ltb, eqb}
+use lib.ListN.{getD, set}
+use borrow.Author.Tests.{eqb-true, eq-eqb, ne-eqb, le-ltb}
 use Rattle.rules.specs.declared.Settings.{Settings}
-use Rattle.rules.specs.Table.{Memory, lent, left, default-word, mark-of, slot-number, default-mark, occupied, held, vacant, is-some, stored, refuse, from-1, full, passes-15, runs-short, route-refusal, update, with-slot, with-default, with-found, counter-places, step-each, add-refusal, withdraw-refusal, change-refusal, added, withdrawn, changed, add, withdraw, change}
+use Rattle.rules.specs.Table.{Memory, lent, left, default-word, prefix-word, mark-word, mark-of, slot-number, mark-at, prefix-at, default-mark, occupied, holds, held, vacant, is-some, stored, refuse, from-1, needs-slot, full, passes-15, runs-short, route-refusal, update, with-slot, with-default, with-found, counter-places, step-each, add-refusal, withdraw-refusal, change-refusal, added, withdrawn, changed, add, withdraw, change}
+use Rattle.rules.proofs.Members.{both}
+use Rattle.rules.proofs.Lowest.{some-lowest}
 use Rattle.rules.proofs.Found.{InBucket}
 use Rattle.rules.proofs.Refusals.{RouteFitted, HopFitted, route-fits, route-passing, hop-passing, stopped, refused-by}
 
+-- ---- Which prefixes need a slot
+
+module _ (t : Settings) (slots : List ℕ) (L p : ℕ) where
+  pub default-in-place : L ≡ 0 → needs-slot t slots L p ≡ false
+  unfolding needs-slot from-1
+  default-in-place z = rw (eq-eqb L 0 z)
+
+  pub stored-in-place : stored t slots L p ≡ true → needs-slot t slots L p ≡ false
+  unfolding needs-slot from-1
+  stored-in-place there = rw there (go (eqb L 0))
+    where
+      go : (b : Bool) → cond b false false ≡ false
+      go true = refl
+      go false = refl
+
+  pub new-needs-slot : (L ≡ 0 → ⊥) → stored t slots L p ≡ false → needs-slot t slots L p ≡ true
+  unfolding needs-slot from-1
+  new-needs-slot up fresh = rw (ne-eqb L 0 up, fresh)
+
+-- a prefix with a slot of its own is stored
+pub held-is-stored : (t : Settings) (slots : List ℕ) (L p : ℕ) → (L ≡ 0 → ⊥) → (s : ℕ) → held t slots L p ≡ some s → stored t slots L p ≡ true
+unfolding stored is-some
+held-is-stored t slots L p up s there = rw (ne-eqb L 0 up, there)
+
 -- ---- What an update leaves, past its checks
 
-module _ (t : Settings) (m : Memory) (p L hop : ℕ) where
-  pub added-default : L ≡ 0 → added t m p L hop ≡ lent (m .counters) (set (m .slots) (default-word t) (mark-of hop))
-  unfolding added with-default
-  added-default z = rw (eq-eqb L 0 z)
+-- what is written where it stands already changes nothing
+set-same : (xs : List ℕ) (i : ℕ) → set xs i (getD xs i 0) ≡ xs
+set-same [] i = refl
+set-same (x ∷ xs) zero = refl
+set-same (x ∷ xs) (suc i) = ap (λ others. x ∷ others) (set-same xs i)
 
-  pub added-slot : (L ≡ 0 → ⊥) → (s : ℕ) → vacant t (m .slots) L p ≡ some s
+module _ (t : Settings) (m : Memory) (p L hop : ℕ) where
+  pub added-slot : needs-slot t (m .slots) L p ≡ true → (s : ℕ) → vacant t (m .slots) L p ≡ some s
       → added t m p L hop ≡ lent (step-each (λ n. n + 1) (m .counters) (counter-places t L p)) (with-slot (m .slots) (slot-number t L p s) p (mark-of hop))
   unfolding added with-found
-  added-slot up s there = rw (ne-eqb L 0 up, there)
+  added-slot needed s there = rw (needed, there)
+
+  pub added-in-place : needs-slot t (m .slots) L p ≡ false → added t m p L hop ≡ changed t m p L hop
+  unfolding added
+  added-in-place place = rw place
 
   pub changed-default : L ≡ 0 → changed t m p L hop ≡ lent (m .counters) (set (m .slots) (default-word t) (mark-of hop))
   unfolding changed with-default
@@ -32,6 +64,31 @@ module _ (t : Settings) (m : Memory) (p L hop : ℕ) where
       → changed t m p L hop ≡ lent (m .counters) (with-slot (m .slots) (slot-number t L p s) p (mark-of hop))
   unfolding changed with-found
   changed-slot up s there = rw (ne-eqb L 0 up, there)
+
+  -- of the words, only the mark changes
+  pub changed-mark : (L ≡ 0 → ⊥) → (s : ℕ) → held t (m .slots) L p ≡ some s
+      → changed t m p L hop ≡ lent (m .counters) (set (m .slots) (mark-word (slot-number t L p s)) (mark-of hop))
+  unfolding held holds prefix-at with-slot
+  changed-mark up s lowest =
+      let its-prefix = eqb-true _ p (both (occupied (mark-at (m .slots) (slot-number t L p s))) _ (some-lowest (holds t (m .slots) L p) (t .s) s lowest .passes) .1) in
+      changed-slot up s lowest
+      ∙ ap (λ slots. lent (m .counters) (set slots (mark-word (slot-number t L p s)) (mark-of hop)))
+      (ap (set (m .slots) (prefix-word (slot-number t L p s))) (sym its-prefix) ∙ set-same (m .slots) (prefix-word (slot-number t L p s)))
+
+  pub changed-counters : changed t m p L hop .counters ≡ m .counters
+  unfolding changed with-default
+  changed-counters = go (eqb L 0) (with-found t (m .slots) L p (held t (m .slots) L p) p (mark-of hop))
+    where
+      go : (default : Bool) (slots : List ℕ) → cond default (with-default t m (mark-of hop)) (lent (m .counters) slots) .counters ≡ m .counters
+      go true slots = refl
+      go false slots = refl
+
+  -- so an add of a stored prefix is a change, whatever the memory holds
+  pub add-is-change : stored t (m .slots) L p ≡ true → add t m p L hop ≡ change t m p L hop
+  unfolding add change add-refusal change-refusal refuse
+  add-is-change there =
+      let place = stored-in-place t (m .slots) L p there in
+      rw (added-in-place place, place, there)
 
 module _ (t : Settings) (m : Memory) (p L : ℕ) where
   pub withdrawn-default : L ≡ 0 → withdrawn t m p L ≡ lent (m .counters) (set (m .slots) (default-word t) 0)
@@ -96,10 +153,14 @@ module _ {t : Settings} {counters slots : List ℕ} {L p hop : ℕ} (fit : HopFi
   unfolding change change-refusal stored refuse changed mark-of
   change-at-0 z = rw (route-fits t counters slots L p (fit .route), le-ltb _ _ (fit .small), eq-eqb L 0 z)
 
-  pub add-at-0 : L ≡ 0 → add t (lent counters slots) p L hop
-      ≡ update (refuse (occupied (default-mark t slots)) 6 0) (with-default t (lent counters slots) (hop + 1)) (lent counters slots)
-  unfolding add add-refusal stored from-1 refuse added mark-of
-  add-at-0 z = rw (route-fits t counters slots L p (fit .route), le-ltb _ _ (fit .small), eq-eqb L 0 z)
+  add-in-place : needs-slot t slots L p ≡ false → add t (lent counters slots) p L hop ≡ record { refusal = 0; memory = changed t (lent counters slots) p L hop }
+  unfolding add add-refusal refuse update
+  add-in-place place =
+      rw (route-fits t counters slots L p (fit .route), le-ltb _ _ (fit .small), added-in-place t (lent counters slots) p L hop place, place)
+
+  pub add-at-0 : L ≡ 0 → add t (lent counters slots) p L hop ≡ left 0 counters (set slots (default-word t) (hop + 1))
+  unfolding mark-of
+  add-at-0 z = add-in-place (default-in-place t slots L p z) ∙ rw (changed-default t (lent counters slots) p L hop z)
 
   module _ (up : L ≡ 0 → ⊥) where
     change-number : change-refusal t (lent counters slots) p L hop ≡ refuse (not (is-some (held t slots L p))) 7 0
@@ -115,27 +176,33 @@ module _ {t : Settings} {counters slots : List ℕ} {L p hop : ℕ} (fit : HopFi
     unfolding change update refuse is-some mark-of
     change-slot at = rw (change-number, at .number, changed-slot t (lent counters slots) p L hop up (at .s) (at .there), at .there)
 
-    add-number : add-refusal t (lent counters slots) p L hop
-        ≡ refuse (is-some (held t slots L p)) 6 (refuse (full t slots L p) 8 (refuse (passes-15 t counters L p) 9 0))
-    unfolding add-refusal stored from-1 refuse
-    add-number = route-fits t counters slots L p (fit .route) _ ∙ rw (le-ltb _ _ (fit .small), ne-eqb L 0 up)
-
-    pub add-stored : {slot : ℕ} → InBucket t L p (held t slots L p) slot → add t (lent counters slots) p L hop ≡ left 6 counters slots
-    unfolding add update refuse is-some
-    add-stored at = rw (add-number, at .there)
+    pub add-stored : {slot : ℕ} → InBucket t L p (held t slots L p) slot → add t (lent counters slots) p L hop
+        ≡ left 0 counters (with-slot slots slot p (hop + 1))
+    unfolding mark-of
+    add-stored at =
+        add-in-place (stored-in-place t slots L p (held-is-stored t slots L p up (at .s) (at .there)))
+        ∙ rw (changed-slot t (lent counters slots) p L hop up (at .s) (at .there), at .number)
 
     module _ (fresh : held t slots L p ≡ none) where
+      needed : needs-slot t slots L p ≡ true
+      unfolding stored is-some
+      needed = new-needs-slot t slots L p up (rw (ne-eqb L 0 up, fresh))
+
+      add-number : add-refusal t (lent counters slots) p L hop ≡ refuse (full t slots L p) 8 (refuse (passes-15 t counters L p) 9 0)
+      unfolding add-refusal refuse
+      add-number = route-fits t counters slots L p (fit .route) _ ∙ rw (le-ltb _ _ (fit .small), needed)
+
       pub add-full : vacant t slots L p ≡ none → add t (lent counters slots) p L hop ≡ left 8 counters slots
       unfolding add update refuse is-some full
-      add-full nowhere = rw (add-number, fresh, nowhere)
+      add-full nowhere = rw (add-number, nowhere)
 
       module _ {slot : ℕ} (at : InBucket t L p (vacant t slots L p) slot) where
         pub add-past-15 : passes-15 t counters L p ≡ true → add t (lent counters slots) p L hop ≡ left 9 counters slots
         unfolding add update refuse is-some full
-        add-past-15 passes = rw (add-number, fresh, at .there, passes)
+        add-past-15 passes = rw (add-number, at .there, passes)
 
         pub add-slot : passes-15 t counters L p ≡ false → add t (lent counters slots) p L hop
             ≡ left 0 (step-each (λ n. n + 1) counters (counter-places t L p)) (with-slot slots slot p (hop + 1))
         unfolding add update refuse is-some full mark-of
         add-slot level =
-            rw (add-number, at .number, added-slot t (lent counters slots) p L hop up (at .s) (at .there), fresh, at .there, level)
+            rw (add-number, at .number, added-slot t (lent counters slots) p L hop needed (at .s) (at .there), at .there, level)

@@ -8,7 +8,7 @@ use lib.ListN.{getD, length, replicate, set}
 use Rattle.rules.specs.declared.Settings.{Settings}
 use Rattle.rules.specs.declared.Answer.{Answer}
 use Rattle.rules.specs.Tools.{within, all, any, count, those, lowest}
-use Rattle.rules.specs.Table.{in-range, wrap, prefix, steps, filter-bits, positions, bucket, Memory, counters-size, filter-start, counter-place, counter-places, slots-size, slot-number, prefix-word, mark-word, default-word, occupied, mark-of, hop-of, mark-at, prefix-at, default-mark, holds, free, held, vacant, is-some, stored, refuse, sized, loose, full, hits, passes-15, runs-short, from-1, memory-refusal, route-refusal, add-refusal, withdraw-refusal, change-refusal, Update, update, zeroed, step-each, with-slot, with-default, with-found, added, withdrawn, changed, clear, add, withdraw, change, claims, bits-where, vector-of, match-vector, down-from, bit-set, set-bits, search, route-answer, default-answer, place-answer, refused, answer-of, lookup, one-if, answer-words, list-words, Listed, listed, fourfold, list-refusal, lookup-list, whole-words, words, answer-number, vector-number, c-lookup, c-match-vector, bytes-of, c-list-refusal, c-lookup-list}
+use Rattle.rules.specs.Table.{in-range, wrap, prefix, steps, filter-bits, positions, bucket, Memory, counters-size, filter-start, counter-place, counter-places, slots-size, slot-number, prefix-word, mark-word, default-word, occupied, mark-of, hop-of, mark-at, prefix-at, default-mark, holds, free, held, vacant, is-some, stored, refuse, sized, loose, full, hits, passes-15, runs-short, from-1, needs-slot, memory-refusal, route-refusal, add-refusal, withdraw-refusal, change-refusal, Update, update, zeroed, step-each, with-slot, with-default, with-found, added, withdrawn, changed, clear, add, withdraw, change, claims, bits-where, vector-of, match-vector, down-from, bit-set, set-bits, search, route-answer, default-answer, place-answer, refused, answer-of, lookup, one-if, answer-words, list-words, Listed, listed, fourfold, list-refusal, lookup-list, whole-words, words, answer-number, vector-number, c-lookup, c-match-vector, bytes-of, c-list-refusal, c-lookup-list}
 
 -- an address or a prefix by its four octets
 abbrev pub ip : (a b c d : ℕ) → ℕ
@@ -66,14 +66,53 @@ doubled = add U (add U (empty U) (ip 10 27 0 0) 16 5 .memory) (ip 10 12 0 0) 16 
 abbrev doubled-gone : Memory
 doubled-gone = withdraw U doubled (ip 10 27 0 0) 16 .memory
 
--- the counters of length 16 at these positions
-abbrev counters-at : Memory → (positions : List ℕ) → List ℕ
-counters-at m = map (λ j. getD (m .counters) (counter-place U 16 j) 0)
-
 -- n routes of length 32 and hop 1 under settings t: 0.0.0.1 and on
 abbrev hosts : Settings → (n : ℕ) → Memory
 hosts t zero = empty t
 hosts t (suc n) = add t (hosts t n) (suc n) 32 1 .memory
+
+-- the tables of P4, P8 and P7, each with a stored route added again, with another hop
+abbrev ten-again : Update
+ten-again = add T ten (ip 10 0 0 0) 8 8
+
+abbrev eight-again : Update
+eight-again = add T ten-eight (ip 8 0 0 0) 8 6
+
+abbrev default-again : Update
+default-again = add T ten-one-default 0 0 4
+
+-- the table of P8 with 10/8 withdrawn, so that the slot before that of 8/8 is free, and 8/8 added again
+abbrev before-it-free : Memory
+before-it-free = withdraw T ten-eight (ip 10 0 0 0) 8 .memory
+
+abbrev past-free : Update
+past-free = add T before-it-free (ip 8 0 0 0) 8 6
+
+-- the table of P9, whose counter is at 15, and that of P10 with S 1, whose bucket is full too, with a route added again
+abbrev at-15 : Update
+at-15 = add (Z 5 4) (hosts (Z 5 4) 3) 2 32 4
+
+abbrev full-at-15 : Update
+full-at-15 = add (Z 8 1) (hosts (Z 8 1) 1) 1 32 4
+
+-- damaged memory: 10/8 stands in both slots of its bucket, and no counter tells of it; 10/8 added again
+abbrev twice : Memory
+twice = record { counters = empty T .counters; slots = set (set (ten .slots) 58 (ip 10 0 0 0)) 59 6 }
+
+abbrev lowest-again : Update
+lowest-again = add T twice (ip 10 0 0 0) 8 8
+
+-- an update's number, and all that it leaves, the counters first
+abbrev written : Update → List ℕ
+written u = u .refusal ∷ u .memory .counters ++ u .memory .slots
+
+-- an accepted update that changes one word, and what it changes it to
+abbrev only-word : Memory → (at word : ℕ) → List ℕ
+only-word m at word = 0 ∷ m .counters ++ set (m .slots) at word
+
+-- the counters of length 16 at these positions
+abbrev counters-at : Memory → (positions : List ℕ) → List ℕ
+counters-at m = map (λ j. getD (m .counters) (counter-place U 16 j) 0)
 
 -- an answer's figures, in the order of the rules: refusal, found, hop, length, probes
 abbrev figures : Answer → List ℕ
@@ -168,8 +207,7 @@ refusals =
     ∷ case (clear (settings 2 12 1 2 1 2 1) (empty T) .refusal ∷ clear (settings 2 3 1 2 1 2 1) (empty T) .refusal ∷ []) (1 ∷ 1 ∷ [])
     ∷ case (clear (settings 2 4 9 2 1 2 1) (empty T) .refusal ∷ []) (1 ∷ [])
     ∷ case (clear (settings 2 4 1 9 1 2 1) (empty T) .refusal ∷ clear (settings 2 4 1 0 1 2 1) (empty T) .refusal ∷ []) (1 ∷ 1 ∷ [])
-    -- a prefix stored already gets 6, one not stored 7
-    ∷ case (add T ten (ip 10 0 0 0) 8 7 .refusal ∷ add T ten-one-default 0 0 3 .refusal ∷ []) (6 ∷ 6 ∷ [])
+    -- a prefix that is not stored gets 7
     ∷ case (withdraw T ten (ip 11 0 0 0) 8 .refusal ∷ change T ten 0 0 3 .refusal ∷ []) (7 ∷ 7 ∷ [])
     -- a counter below its hits gets 10: the slot is there, and the counters are all zero
     ∷ case (withdraw T (record { counters = empty T .counters; slots = ten .slots }) (ip 10 0 0 0) 8 .refusal ∷ []) (10 ∷ [])
@@ -232,6 +270,31 @@ lists =
     ∷ case (told-c (3 ∷ 2 ∷ 1 ∷ 10 ∷ []) (sevens 17)) (18 ∷ sevens 17)
     ∷ []
 
+-- a stored prefix added again
+replaced : List Case
+replaced =
+    -- W7: 10/8 added with hop 8 where it is stored with hop 7: its mark, word 57, changes and nothing else
+    case (written ten-again) (only-word ten 57 9)
+    ∷ case (figures (lookup T (ten-again .memory) (ip 10 2 2 3))) (finds 8 8 1)
+    -- in a full bucket: 8/8 gets hop 6 in slot 1, word 59, and 9/8 gets 8 as before
+    ∷ case (written eight-again) (only-word ten-eight 59 7)
+    ∷ case (figures (lookup T (eight-again .memory) (ip 8 1 2 3))) (finds 6 8 1)
+    ∷ case (add T (eight-again .memory) (ip 9 0 0 0) 8 6 .refusal ∷ []) (8 ∷ [])
+    -- with slot 0 free: slot 1 has it, and slot 0 stays free
+    ∷ case (written past-free) (only-word before-it-free 59 7)
+    -- with its counters at 15, and in a full bucket besides: they stay
+    ∷ case (written at-15) (only-word (hosts (Z 5 4) 3) 251 5)
+    ∷ case (figures (lookup (Z 5 4) (at-15 .memory) 2)) (finds 4 32 1)
+    ∷ case (written full-at-15) (only-word (hosts (Z 8 1) 1) 63 5)
+    -- the default: its word, the last, has hop 4
+    ∷ case (written default-again) (only-word ten-one-default 256 5)
+    ∷ case (figures (lookup T (default-again .memory) (ip 11 0 0 1))) (finds 4 0 0)
+    -- W8: where damage has 10/8 in both slots, the lower one is written
+    ∷ case (written lowest-again) (only-word twice 57 9)
+    -- 5 is asked before a stored prefix is looked for
+    ∷ case (add T ten (ip 10 0 0 0) 8 65536 .refusal ∷ []) (5 ∷ [])
+    ∷ []
+
 -- two lists of numbers are the same
 unfoldable pub same : List ℕ → List ℕ → Bool
 same [] [] = true
@@ -246,9 +309,9 @@ come-out (c ∷ cs) = same (c .gives) (c .says) && come-out cs
 
 -- to unfold this is to unfold all that the calls compute with
 unfoldable pub computing : ℕ
-unfolding within all any count those lowest in-range wrap prefix steps filter-bits positions bucket counters-size filter-start counter-place counter-places slots-size slot-number prefix-word mark-word default-word occupied mark-of hop-of mark-at prefix-at default-mark holds free held vacant is-some stored refuse sized loose full hits passes-15 runs-short from-1 memory-refusal route-refusal add-refusal withdraw-refusal change-refusal update zeroed step-each with-slot with-default with-found added withdrawn changed clear add withdraw change claims bits-where vector-of match-vector down-from bit-set set-bits search route-answer default-answer place-answer refused answer-of lookup one-if answer-words list-words listed fourfold list-refusal lookup-list whole-words words answer-number vector-number c-lookup c-match-vector bytes-of c-list-refusal c-lookup-list
+unfolding within all any count those lowest in-range wrap prefix steps filter-bits positions bucket counters-size filter-start counter-place counter-places slots-size slot-number prefix-word mark-word default-word occupied mark-of hop-of mark-at prefix-at default-mark holds free held vacant is-some stored refuse sized loose full hits passes-15 runs-short from-1 needs-slot memory-refusal route-refusal add-refusal withdraw-refusal change-refusal update zeroed step-each with-slot with-default with-found added withdrawn changed clear add withdraw change claims bits-where vector-of match-vector down-from bit-set set-bits search route-answer default-answer place-answer refused answer-of lookup one-if answer-words list-words listed fourfold list-refusal lookup-list whole-words words answer-number vector-number c-lookup c-match-vector bytes-of c-list-refusal c-lookup-list
 computing = 0
 
-all-come-out : come-out (worked ++ refusals ++ further ++ lists) ≡ true
-unfolding worked refusals further lists same come-out computing
+all-come-out : come-out (worked ++ refusals ++ further ++ lists ++ replaced) ≡ true
+unfolding worked refusals further lists replaced same come-out computing
 all-come-out = refl

@@ -160,6 +160,10 @@ loose L p = not (eqb (prefix L p) p)
 unfoldable pub from-1 : (L : ℕ) → Bool → Bool
 from-1 L bad = cond (eqb L 0) false bad
 
+-- p needs a slot: not at length 0, which has none, nor where p is stored and keeps its own
+unfoldable pub needs-slot : Settings → (slots : List ℕ) (L p : ℕ) → Bool
+needs-slot t slots L p = from-1 L (not (stored t slots L p))
+
 -- every slot of the bucket is occupied
 unfoldable pub full : Settings → (slots : List ℕ) (L p : ℕ) → Bool
 full t slots L p = not (is-some (vacant t slots L p))
@@ -189,8 +193,8 @@ unfoldable pub add-refusal : Settings → Memory → (p L hop : ℕ) → ℕ
 add-refusal t m p L hop =
     route-refusal t m L p
     (refuse (ltb 65535 hop) 5
-    (refuse (stored t (m .slots) L p) 6
-    (refuse (from-1 L (full t (m .slots) L p)) 8 (refuse (from-1 L (passes-15 t (m .counters) L p)) 9 0))))
+    (refuse (needs-slot t (m .slots) L p && full t (m .slots) L p) 8
+    (refuse (needs-slot t (m .slots) L p && passes-15 t (m .counters) L p) 9 0)))
 
 -- what withdraw gives back
 unfoldable pub withdraw-refusal : Settings → Memory → (p L : ℕ) → ℕ
@@ -240,14 +244,26 @@ unfoldable pub with-found : Settings → (slots : List ℕ) (L p : ℕ) → Opti
 with-found t slots L p (some s) q mark = with-slot slots (slot-number t L p s) q mark
 with-found t slots L p none q mark = slots
 
--- add: the lowest free slot gets prefix and mark, and at each of the K steps a counter goes up by one
+-- change, which add does too where p has its place: the slot that holds p gets a new mark beside the p that it has, and
+-- the counters stay
+unfoldable pub changed : Settings → Memory → (p L hop : ℕ) → Memory
+changed t m p L hop =
+    cond (eqb L 0) (with-default t m (mark-of hop))
+    (record {
+      counters = m .counters;
+      slots = with-found t (m .slots) L p (held t (m .slots) L p) p (mark-of hop);
+    })
+
+-- add: where p needs a slot, the lowest free one gets prefix and mark, and at each of the K steps a counter goes up by
+-- one; where it needs none, this is a change
 unfoldable pub added : Settings → Memory → (p L hop : ℕ) → Memory
 added t m p L hop =
-    cond (eqb L 0) (with-default t m (mark-of hop))
+    cond (needs-slot t (m .slots) L p)
     (record {
       counters = step-each (λ n. n + 1) (m .counters) (counter-places t L p);
       slots = with-found t (m .slots) L p (vacant t (m .slots) L p) p (mark-of hop);
     })
+    (changed t m p L hop)
 
 -- withdraw: the slot that holds p gets two zeros, and at each of the K steps a counter goes down by one
 unfoldable pub withdrawn : Settings → Memory → (p L : ℕ) → Memory
@@ -256,15 +272,6 @@ withdrawn t m p L =
     (record {
       counters = step-each (λ n. n - 1) (m .counters) (counter-places t L p);
       slots = with-found t (m .slots) L p (held t (m .slots) L p) 0 0;
-    })
-
--- change: the slot that holds p gets a new mark beside the p that it has, and the counters stay
-unfoldable pub changed : Settings → Memory → (p L hop : ℕ) → Memory
-changed t m p L hop =
-    cond (eqb L 0) (with-default t m (mark-of hop))
-    (record {
-      counters = m .counters;
-      slots = with-found t (m .slots) L p (held t (m .slots) L p) p (mark-of hop);
     })
 
 -- clear, as it is given back and as it leaves the memory
