@@ -48,7 +48,7 @@ const LEND_COUNTERS: u32 = 14;
 // How many words are lent and, where the hop stands, how many bytes for them to C.
 const LEND_SLOTS: u32 = 15;
 
-const CASES: [u64; 300] = [
+const CASES: [u64; 335] = [
     // Settings T, and memory that was never cleared: every slot holds 0.0.0.7 with the mark 7, and
     // every counter is 7.
     0xa_02040102_00_00000,
@@ -80,8 +80,10 @@ const CASES: [u64; 300] = [
     0x4_0b000001_00_00000,
     0x1_00000000_00_00003,
     0x4_0b000001_00_00000,
-    // The default is stored, changed, withdrawn, and then not stored.
+    // The default is added again, changed, withdrawn, and then not stored.
     0x1_00000000_00_00004,
+    0x4_0b000001_00_00000,
+    0x1_00000000_00_10000,
     0x3_00000000_00_00005,
     0x4_0b000001_00_00000,
     0x2_00000000_00_00000,
@@ -172,7 +174,45 @@ const CASES: [u64; 300] = [
     0x4_0a000001_00_00000,
     0x2_0a000000_08_00000,
     0x4_0a000001_00_00000,
+    // An add of what is stored gives its slot the new mark and leaves all else: one slot of the bucket is
+    // free, then none is, and another prefix gets 8.
+    0x0_00000000_00_00000,
+    0x1_0a000000_08_00007,
+    0x1_0a000000_08_00009,
+    0x4_0a010203_00_00000,
+    0x1_08000000_08_00005,
+    0x1_08000000_08_00006,
+    0x1_0a000000_08_0000a,
+    0x1_0a000000_08_10000,
+    0x1_09000000_08_00006,
+    0x4_08010203_00_00000,
+    0x4_0a010203_00_00000,
+    // The free slot stands before the one that holds it.
+    0x2_0a000000_08_00000,
+    0x1_08000000_08_00007,
+    0x7_00000038_00_00000,
+    // Its counters are at 15, and another prefix gets 9.
+    0x8_0000000f_00_00070,
+    0x8_0000000f_00_00071,
+    0x1_08000000_08_00001,
+    0x4_08010203_00_00000,
+    0x1_09000000_08_00006,
+    // Its counters are at zero: it is not found after.
+    0x8_00000000_00_00070,
+    0x8_00000000_00_00071,
+    0x1_08000000_08_00002,
+    0x4_08010203_00_00000,
+    // It stands twice in its bucket: the lower slot is written. With a mark of 65,537 that slot is free, and
+    // the other one is written.
+    0x9_08000000_00_00038,
+    0x9_00000004_00_00039,
+    0x1_08000000_08_00010,
+    0x7_00000039_00_00000,
+    0x9_00010001_00_00039,
+    0x1_08000000_08_00011,
+    0x7_0000003b_00_00000,
     // A prefix in another bucket than its own is not stored.
+    0x0_00000000_00_00000,
     0x9_0a000000_00_0003c,
     0x9_00000005_00_0003d,
     0x2_0a000000_08_00000,
@@ -182,7 +222,6 @@ const CASES: [u64; 300] = [
     0x1_0a000000_08_00007,
     0x8_00000000_00_00070,
     0x4_0a000001_00_00000,
-    0x1_0a000000_08_00007,
     0x2_0a000000_08_00000,
     0x8_00000001_00_00070,
     0x8_00000000_00_00071,
@@ -364,6 +403,9 @@ const CASES: [u64; 300] = [
     0x1_00000003_20_00001,
     0x6_000001f0_00_00000,
     0x1_00000004_20_00001,
+    // One of the three is added again.
+    0x1_00000002_20_00004,
+    0x4_00000002_00_00000,
     // P10, with S 2 and then with S 1.
     0xa_08040002_00_00000,
     0xf_00000081_00_00204,
@@ -375,6 +417,8 @@ const CASES: [u64; 300] = [
     0x0_00000000_00_00000,
     0x1_00000001_20_00001,
     0x1_00000002_20_00001,
+    // The stored one is added again, where the bucket is full and its counter plus its hits passes 15.
+    0x1_00000001_20_00004,
 ];
 
 // How much of the memory is lent: counters, words, and bytes for the words to C.

@@ -1,4 +1,4 @@
-// The updates at length 0: the default route is one word, with no counter and no bucket.
+// A withdrawal or change at length 0: the default route is one word, with no counter and no bucket.
 ghost use mathlib.Core.Path.{_≡_};
 ghost use mathlib.Core.Bool.{not};
 ghost use mathlib.Core.List.{List};
@@ -10,19 +10,7 @@ use buckets::is_occupied;
 use buckets::put_default;
 use rules::Settings;
 
-// Add's part at length 0: gives the default route a mark, where there is none yet.
-pub fn add_default(settings: Settings, slots: &mut [u32], mark: u32) -> u32
-    requires { ⌜ Slots settings (now slots) ⌝ }
-    ensures { λ r. ⌜ ((counters : List ℕ) → update (refuse (occupied (default-mark settings (now (slots .entry)))) 6 0) (with-default settings (lent counters (now (slots .entry))) mark) (lent counters (now (slots .entry))) ≡ left r counters (now (slots .exit))) ⌝ }
-{
-    if is_occupied(default_mark(settings, slots)) {
-        return 6;
-    }
-    put_default(settings, slots, mark);
-    0
-}
-
-// Withdraw's and change's: gives it another mark, where there is one.
+// Gives the default route another mark; 7 where it is not stored.
 pub fn change_default(settings: Settings, slots: &mut [u32], mark: u32) -> u32
     requires { ⌜ Slots settings (now slots) ⌝ }
     ensures { λ r. ⌜ ((counters : List ℕ) → update (refuse (not (occupied (default-mark settings (now (slots .entry))))) 7 0) (with-default settings (lent counters (now (slots .entry))) mark) (lent counters (now (slots .entry))) ≡ left r counters (now (slots .exit))) ⌝ }

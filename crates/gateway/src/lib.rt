@@ -116,7 +116,7 @@ pub extern "C" fn gateway_clear(
     refusal_part(table::clear(settings_of(k, d, e, s, a, b, c), counters, slots))
 }
 
-// Stores a route that is not stored yet.
+// Stores a route. One that is stored keeps its slot and gets the new hop.
 #[no_mangle]
 pub extern "C" fn gateway_add(
     k: u32,

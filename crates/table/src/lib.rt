@@ -3,9 +3,9 @@
 ghost use mathlib.Core.Path.{_≡_};
 ghost use Rattle.rules.specs.Table.{lent, left, clear, add, withdraw, change, match-vector, lookup, lookup-list, answered};
 use buckets::Vacancy;
+use buckets::put_default;
 use buckets::put_slot;
 use buckets::search_bucket;
-use defaults::add_default;
 use defaults::change_default;
 use filters::Step;
 use filters::cannot_step;
@@ -39,7 +39,8 @@ pub fn clear(settings: Settings, counters: &mut [u8], slots: &mut [u32]) -> u32
     0
 }
 
-// Stores a route that is not stored yet: prefix p of a length, with its next hop.
+// Stores a route: prefix p of a length, with its next hop. One that is stored keeps its slot and gets the
+// new hop.
 pub fn add(
     settings: Settings,
     counters: &mut [u8],
@@ -55,16 +56,18 @@ pub fn add(
         return refusal;
     }
     if length == 0 {
-        return add_default(settings, slots, hop + 1);
+        put_default(settings, slots, hop + 1);
+        return 0;
     }
     let found = search_bucket(settings, slots, p, length);
     let place = found.place;
     if let Place::At {
-        slot: _,
+        slot: held,
         length: _,
         probes: _,
     } = place {
-        return 6;
+        put_slot(slots, held, p, hop + 1);
+        return 0;
     }
     let vacancy = found.vacancy;
     let Vacancy::At(free) = vacancy else {
