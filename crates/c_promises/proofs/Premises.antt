@@ -55,7 +55,7 @@ empty = act T Clear sevens .memory
 day-run : Run T (empty .counters) (empty .slots)
 day-run = run T (empty .counters) (empty .slots) day day-words
 
-day-answers : same (numbers-of (day-run .log)) (0 ∷ 6 * 2 ^ 48 ∷ 7 * 2 ^ 48 ∷ []) ≡ true
+day-answers : same (numbers-of (day-run .log)) (0 ∷ 0 ∷ 7 * 2 ^ 48 ∷ []) ≡ true
 unfolding day day-run run numbers-of same computing
 day-answers = refl
 
@@ -72,15 +72,15 @@ day-served = record {
   ran = day-run .ran;
 }
 
--- a lookup of 10.2.2.3 finds 10.0.0.0/8 with hop 7, in one probe
+-- a lookup of 10.2.2.3 finds 10.0.0.0/8 with the last hop, 9, in one probe
 abbrev answer : ℕ
 answer = c-lookup T (day-run .last-counters) (bytes-of (day-run .last-slots)) (ip 10 2 2 3)
 
-found-met : Finds answer (route (ip 10 0 0 0) 8 7)
+found-met : Finds answer (route (ip 10 0 0 0) 8 9)
 unfolding day day-run run told on-paper gateway-refusal longest longer matches computing
-found-met = finds-longest day-served (ip 10 2 2 3) answer (record { word = lit< tt; crossed = refl }) (route (ip 10 0 0 0) 8 7) (right (ip 10 2 2 3) (on-paper [] (told (day-run .log))))
+found-met = finds-longest day-served (ip 10 2 2 3) answer (record { word = lit< tt; crossed = refl }) (route (ip 10 0 0 0) 8 9) (right (ip 10 2 2 3) (on-paper [] (told (day-run .log))))
 
-number-met : eqb answer (2 ^ 40 + 7 * 2 ^ 16 + 8 * 2 ^ 8 + 1) ≡ true
+number-met : eqb answer (2 ^ 40 + 9 * 2 ^ 16 + 8 * 2 ^ 8 + 1) ≡ true
 unfolding day day-run run bytes-of computing
 number-met = refl
 
@@ -95,11 +95,11 @@ list-asked : ListedUp T (day-run .last-counters) (day-run .last-slots) addresses
 unfolding bytes-of
 list-asked = record { bytes = refl; crossed = record { number = refl; results = refl } }
 
-list-words-met : same (words (list .results)) (1 ∷ 7 ∷ 8 ∷ 1 ∷ 0 ∷ 0 ∷ 0 ∷ 0 ∷ []) ≡ true
+list-words-met : same (words (list .results)) (1 ∷ 9 ∷ 8 ∷ 1 ∷ 0 ∷ 0 ∷ 0 ∷ 0 ∷ []) ≡ true
 unfolding day day-run run same computing bytes-of words whole-words c-lookup-list c-list-refusal list-refusal listed fourfold list-words answer-words
 list-words-met = refl
 
-list-found-met : FindsAt (list .results) 0 (route (ip 10 0 0 0) 8 7)
+list-found-met : FindsAt (list .results) 0 (route (ip 10 0 0 0) 8 9)
 unfolding day day-run run told on-paper gateway-refusal longest longer matches computing bytes-of address-at word-at c-lookup-list c-list-refusal list-refusal listed fourfold
 list-found-met =
-    list-finds-longest day-served list-asked refl 0 (lit< tt) (route (ip 10 0 0 0) 8 7) (right (ip 10 2 2 3) (on-paper [] (told (day-run .log))))
+    list-finds-longest day-served list-asked refl 0 (lit< tt) (route (ip 10 0 0 0) 8 9) (right (ip 10 2 2 3) (on-paper [] (told (day-run .log))))

@@ -16,11 +16,12 @@ use Rattle.rules.specs.declared.Settings.{Settings}
 use Rattle.rules.specs.Tools.{all}
 use Rattle.rules.specs.Table.{in-range, bucket, lent, sized, words, slots-size, bit-set, lookup, match-vector, refused, one-if, answer-number, vector-number as packed-vector, c-lookup, c-match-vector, bytes-of}
 use Rattle.rules.proofs.Vectors.{bit-where}
-use Rattle.promises.specs.History.{Route, Call, Clear, Add, Withdraw, word-sized, about}
-use Rattle.promises.specs.Demands.{Finds as table-Finds, Stored, number, Reordered, matches, Longest, NoMatch, memory-conditions, conditions, NoneMet, FirstMet, number-given, covered, probes-down-to, lengths-in-use, adds, filter-sum}
+use Rattle.promises.specs.History.{Route, Call, Clear, Add, Withdraw, Change, word-sized, about}
+use Rattle.promises.specs.Demands.{Finds as table-Finds, Stored, number, Reordered, matches, Longest, NoMatch, there, memory-conditions, conditions, NoneMet, FirstMet, number-given, covered, probes-down-to, lengths-in-use, adds, filter-sum}
 use Rattle.promises.specs.Calls.{Made, calls-of, numbers-of, on-paper}
 use Rattle.promises.proofs.Calls as table
-use Rattle.c_promises.specs.Numbers.{gateway-refusal, gateway-found, gateway-length, gateway-probes, gateway-vector, Finds, SaysNone}
+use Rattle.promises.proofs.Refused as demand-1
+use Rattle.c_promises.specs.Numbers.{gateway-refusal, gateway-found, gateway-length, gateway-probes, gateway-vector, Finds, SaysNone, SameButHop}
 use Rattle.c_promises.specs.Calls.{Updated, LookedUp, Matched, Ran, told, Served}
 use Rattle.c_promises.proofs.Unpacking.{Parts, VectorParts, lookup-parts, vector-parts, refusal-alone, words-again, four-to-a-word}
 use Rattle.c_promises.proofs.Runs.{ensured, ran-on, words-given, served-on, calls-told, only-refusals, looked-up, matched}
@@ -42,6 +43,10 @@ module _ {t : Settings} {call : Call} {counters slots counters' slots' : List �
   pub accepted-exactly : (gateway-refusal answer ≡ 0) ↔ NoneMet (conditions t call (lent counters slots))
   accepted-exactly = table.accepted-exactly t call counters slots _ counters' slots' (ensured made)
 
+  -- It is never refused with 6.
+  pub never-six : gateway-refusal answer ≢ 6
+  never-six = table.never-six t call counters slots _ counters' slots' (ensured made)
+
   -- Every bit of its answer beside the refusal is zero.
   pub zero-elsewhere : answer ≡ gateway-refusal answer * 2 ^ 48
   zero-elsewhere = refusal-alone (made .crossed)
@@ -49,6 +54,16 @@ module _ {t : Settings} {call : Call} {counters slots counters' slots' : List �
   -- A refused update leaves every lent byte and word as it was.
   pub refused-unchanged : gateway-refusal answer ≢ 0 → (counters' ≡ counters) × (slots' ≡ slots)
   refused-unchanged = table.refused-unchanged t call counters slots _ counters' slots' (ensured made)
+
+-- An add of a prefix that is stored gives back and leaves what a change of it does, and every counter stays.
+module _ {t : Settings} {p L hop : ℕ} {counters slots counters' slots' : List ℕ} {answer : ℕ}
+    (made : Updated t (Add p L hop) counters slots answer counters' slots') (stands : there t slots L p ≡ true) where
+  pub stored-changes : Updated t (Change p L hop) counters slots answer counters' slots'
+  unfolding word-sized
+  stored-changes = record { word = made .word; crossed = rw (demand-1.stored-changes t (lent counters slots) p L hop stands) at (made .crossed) }
+
+  pub counters-stay : counters' ≡ counters
+  counters-stay = table.counters-stay t p L hop counters slots _ counters' slots' (ensured made) stands
 
 -- A clear is accepted under settings in range, over lists of their sizes.
 pub clear-accepted : {t : Settings} {counters slots counters' slots' : List ℕ} {answer : ℕ} → in-range t ≡ true → sized t (lent counters slots) ≡ true
@@ -95,6 +110,22 @@ module _ (t : Settings) (counters bytes : List ℕ) (address answer : ℕ) (give
       let zero-given = table.vector-refused t address counters (words bytes) _ refl (λ good. bad (vectors-refusal ∙ good)) in
       omega (arith, given, vectors-refusal)
 
+-- what a lookup's number says is what the table's lookup answers
+parts-of : {t : Settings} {counters slots : List ℕ} {address answer : ℕ} → LookedUp t counters slots address answer → Parts answer (lookup t (lent counters slots) address)
+parts-of {t} {counters} {slots} {address} {answer} asked = rw (words-again slots) at (lookup-parts t counters (bytes-of slots) address answer (asked .crossed))
+
+found-by : {t : Settings} {counters slots : List ℕ} {address answer : ℕ} → LookedUp t counters slots address answer
+    → (r : Route) → table-Finds (lookup t (lent counters slots) address) r → Finds answer r
+unfolding one-if
+found-by asked r its =
+    let parts = parts-of asked in
+    record {
+      refusal = parts .refusal ∙ its .refusal;
+      found = parts .found ∙ ap one-if (its .found);
+      hop = parts .hop ∙ its .hop;
+      length = parts .length ∙ its .length;
+    }
+
 -- ---- After an accepted clear and any updates
 
 module _ {t : Settings} {log : List Made} {counters slots : List ℕ} (served : Served t log counters slots) where
@@ -106,16 +137,10 @@ module _ {t : Settings} {log : List Made} {counters slots : List ℕ} (served : 
 
   module _ (address answer : ℕ) (asked : LookedUp t counters slots address answer) where
     parts : Parts answer (lookup t (lent counters slots) address)
-    parts = rw (words-again slots) at (lookup-parts t counters (bytes-of slots) address answer (asked .crossed))
+    parts = parts-of asked
 
     found : (r : Route) → table-Finds (lookup t (lent counters slots) address) r → Finds answer r
-    unfolding one-if
-    found r its = record {
-      refusal = parts .refusal ∙ its .refusal;
-      found = parts .found ∙ ap one-if (its .found);
-      hop = parts .hop ∙ its .hop;
-      length = parts .length ∙ its .length;
-    }
+    found = found-by asked
 
     -- Of the stored routes that match an address, a lookup answers with hop and length of the longest.
     pub finds-longest : (r : Route) → Longest address routes r → Finds answer r
@@ -212,6 +237,45 @@ module _ {t : Settings} {log : List Made} {counters slots : List ℕ} (served : 
     unfolding word-sized
     freed-for-others {q = q} {hop = hop} {last-counters = last-counters} {last-slots = last-slots} same-bucket made =
         table.freed-for-others (served-on served) p L q hop (ltb-true p (2 ^ 32) (freed .word)) (ltb-true q (2 ^ 32) (made .word)) same-bucket counters' slots' (rw accepted at (ensured freed)) _ last-counters last-slots (ensured made)
+
+  -- ---- What an add of a stored route gives back and leaves
+
+  module _ {stored : Route} (stands : Stored stored routes) {hop answer : ℕ} {counters' slots' : List ℕ} (high : hop ≤ 65535)
+      (again : Updated t (Add (stored .prefix) (stored .length) hop) counters slots answer counters' slots') where
+    -- It is accepted, whatever else is stored.
+    pub stored-accepted : gateway-refusal answer ≡ 0
+    stored-accepted = table.stored-accepted (served-on served) stored stands hop high _ counters' slots' (ensured again)
+
+    -- An address of which the route is the longest match then gets the new hop.
+    pub replaced-found : {address after : ℕ} → LookedUp t counters' slots' address after
+        → Longest address routes stored → Finds after (record { prefix = stored .prefix; length = stored .length; hop = hop })
+    replaced-found {address} asked longest = found-by asked _
+        (table.replaced-found (served-on served) stored stands hop high _ counters' slots' (ensured again) address (asked .word) _ refl longest)
+
+    module _ {address before after : ℕ} (asked : LookedUp t counters slots address before) (asked-again : LookedUp t counters' slots' address after) where
+      -- Any other is answered as before.
+      pub replaced-others : (Longest address routes stored → ⊥) → after ≡ before
+      replaced-others other = looked-up asked-again
+          ∙ ap answer-number (table.replaced-others (served-on served) stored stands hop high _ counters' slots' (ensured again) address (asked .word) _ _ refl refl other)
+          ∙ sym (looked-up asked)
+
+      -- No probe count changes: a lookup answers as before, but for the hop.
+      pub replaced-lookups : SameButHop after before
+      replaced-lookups =
+          let its = table.replaced-lookups (served-on served) stored stands hop high _ counters' slots' (ensured again) address (asked .word) _ _ refl refl in
+          let new = parts-of asked-again in
+          let old = parts-of asked in
+          record {
+            refusal = new .refusal ∙ its .refusal ∙ sym (old .refusal);
+            found = new .found ∙ ap one-if (its .found) ∙ sym (old .found);
+            length = new .length ∙ its .length ∙ sym (old .length);
+            probes = new .probes ∙ its .probes ∙ sym (old .probes);
+          }
+
+    -- Nor does a match vector.
+    pub replaced-vectors : {address before after : ℕ} → Matched t counters slots address before → Matched t counters' slots' address after → after ≡ before
+    replaced-vectors {address} asked asked-again = matched asked-again
+        ∙ ap packed-vector (table.replaced-vectors (served-on served) stored stands hop high _ counters' slots' (ensured again) address (asked .word) _ _ refl refl) ∙ sym (matched asked)
 
   -- ---- What is stored, and the counters
 

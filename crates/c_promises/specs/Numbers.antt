@@ -46,6 +46,13 @@ pub record SaysNone (answer : ℕ) : Type 0 where
   pub hop : gateway-hop answer ≡ 0
   pub length : gateway-length answer ≡ 0
 
+-- it is another one's answer but, it may be, for its hop
+pub record SameButHop (answer other : ℕ) : Type 0 where
+  pub refusal : gateway-refusal answer ≡ gateway-refusal other
+  pub found : gateway-found answer ≡ gateway-found other
+  pub length : gateway-length answer ≡ gateway-length other
+  pub probes : gateway-probes answer ≡ gateway-probes other
+
 -- ---- What is read from the bytes of a list
 
 -- the word from a byte on, as x86-64 has it in memory: the low byte first

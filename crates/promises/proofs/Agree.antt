@@ -12,7 +12,7 @@ use Rattle.rules.specs.Tools.{those}
 use Rattle.rules.specs.Table.{Memory, claims, bits-where, vector-of, down-from, bit-set, set-bits, search as searched, route-answer, default-answer, place-answer, refused, answer-of, lookup, one-if}
 use Rattle.rules.proofs.Worked.{ip, T, computing as rules-computing}
 use Rattle.promises.specs.History.{Call, Add, Withdraw, word-sized, all-word-sized, act, ask, about, without, with-hop, written, noted, Acting, next-by, after-by, history-by}
-use Rattle.promises.specs.Demands.{number-given, add-number, withdraw-number, change-number, exists, sum, number, crowded, beside, landings, overflows, matches, marks, covered, probes-down-to, longest, longer}
+use Rattle.promises.specs.Demands.{number-given, needs-place, add-number, withdraw-number, change-number, exists, sum, number, crowded, beside, landings, overflows, matches, marks, covered, probes-down-to, longest, longer}
 use Rattle.promises.specs.Programs.{Asking}
 use Rattle.promises.proofs.Matches.{answer-by}
 
@@ -58,6 +58,10 @@ add-16 = Add (ip 10 1 0 0) 16 9
 unfoldable pub pair : List Call
 pair = add-8 ∷ Add (ip 8 0 0 0) 8 5 ∷ []
 
+-- 10/8 added again, with hop 1
+unfoldable pub again : List Call
+again = add-8 ∷ Add (ip 10 0 0 0) 8 1 ∷ []
+
 -- three routes of length 32
 unfoldable pub three : List Call
 three = Add 1 32 1 ∷ Add 2 32 1 ∷ Add 3 32 1 ∷ []
@@ -73,7 +77,7 @@ computing = 0
 
 -- and this, all that is due and all that a lookup computes with
 unfoldable pub showing : ℕ
-unfolding right-number right-answer same add-8 add-16 pair three four-then-one word-sized all-word-sized number-given add-number withdraw-number change-number exists sum number crowded beside landings overflows matches marks covered probes-down-to longest longer answer-by ask lookup answer-of refused place-answer route-answer default-answer searched set-bits bit-set vector-of bits-where claims down-from those one-if computing
+unfolding right-number right-answer same add-8 add-16 pair again three four-then-one word-sized all-word-sized number-given needs-place add-number withdraw-number change-number exists sum number crowded beside landings overflows matches marks covered probes-down-to longest longer answer-by ask lookup answer-of refused place-answer route-answer default-answer searched set-bits bit-set vector-of bits-where claims down-from those one-if computing
 showing = 0
 
 -- ---- Ours
@@ -87,11 +91,15 @@ every (right ∷ others) = right && every others
 numbers-agree :
     every (
     right-number T act [] add-8
+    ∷ right-number T act (add-8 ∷ []) (Withdraw (ip 10 0 0 0) 8)
     ∷ right-number T act (add-8 ∷ []) add-8
-    ∷ right-number T act (add-8 ∷ add-16 ∷ []) add-16
+    ∷ right-number T act (add-8 ∷ add-16 ∷ []) (Withdraw (ip 10 1 0 0) 16)
+    ∷ right-number T act pair (Add (ip 8 0 0 0) 8 6)
     ∷ right-number T act (add-8 ∷ Withdraw (ip 10 0 0 0) 8 ∷ []) (Withdraw (ip 10 0 0 0) 8)
     ∷ right-number T act pair (Withdraw (ip 10 0 0 0) 8)
     ∷ right-number Z act three (Add 4 32 1)
+    ∷ right-number Z act three (Add 3 32 6)
+    ∷ right-number T act (again ++ Withdraw (ip 10 0 0 0) 8 ∷ []) (Withdraw (ip 10 0 0 0) 8)
     ∷ []
     ) ≡ true
 unfolding every showing
@@ -103,6 +111,8 @@ answers-agree :
     right-answer T act ask [] 0
     ∷ right-answer T act ask (add-8 ∷ []) (ip 10 2 2 3)
     ∷ right-answer T act ask (add-8 ∷ add-16 ∷ []) (ip 10 2 2 3)
+    ∷ right-answer T act ask again (ip 10 2 2 3)
+    ∷ right-answer T act ask (again ++ Withdraw (ip 10 0 0 0) 8 ∷ []) (ip 10 2 2 3)
     ∷ right-answer T act ask (pair ++ Withdraw (ip 8 0 0 0) 8 ∷ []) (ip 10 2 2 3)
     ∷ right-answer Z act ask four-then-one 4
     ∷ []

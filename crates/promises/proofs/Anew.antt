@@ -9,18 +9,18 @@ use lib.Dec.{eqb, ltb}
 use borrow.Author.Tests.{eq-eqb, ne-eqb, lt-ltb, le-ltb}
 use Rattle.rules.specs.declared.Settings.{Settings}
 use Rattle.rules.specs.Tools.{all, count}
-use Rattle.rules.specs.Table.{prefix, positions, bucket, Memory, update, refuse, add}
+use Rattle.rules.specs.Table.{prefix, positions, bucket, Memory, update, add}
 use Rattle.rules.specs.Ready.{Ready}
 use Rattle.rules.proofs.Members.{both, any-none}
-use Rattle.rules.proofs.Prefixes.{loose-false}
-use Rattle.promises.specs.History.{Route, Call, Clear, Add, Withdraw, Change, word-sized, all-word-sized, act, written, noted, State, next, after, about, next-by, after-by}
+use Rattle.promises.specs.History.{Route, Call, Clear, Add, Withdraw, Change, word-sized, all-word-sized, act, written, noted, State, next, after, about, without, next-by, after-by}
 use Rattle.promises.specs.Demands.{sum, number, exists, beside, crowded, landings, overflows, add-number, adds, refusals}
 use Rattle.promises.proofs.Sums.{by-cases, weight-within, none-exists}
-use Rattle.promises.proofs.Paper.{route, sum-without, sum-with-hop}
+use Rattle.promises.proofs.Paper.{route, without-none, sum-without, sum-with-hop}
 use Rattle.promises.proofs.Buckets.{in-bucket, in-default, beside-few}
 use Rattle.promises.proofs.Counters.{lands}
 use Rattle.promises.proofs.Kept.{Kept, Fit, fit, fit-says, ready}
-use Rattle.promises.proofs.Refusals.{number-by-routes, add-by-routes, from-1-never}
+use Rattle.promises.proofs.Refusals.{number-by-routes, add-by-routes}
+use Rattle.promises.proofs.Numbers.{add-accepted}
 use Rattle.promises.proofs.Histories.{kept-next}
 
 -- the same routes, as far as any weight tells
@@ -96,16 +96,12 @@ module _ {t : Settings} {routes : List Route} {m : Memory} (kept : Kept t routes
 
   -- so the next one, with any valid hop, meets none of the conditions
   pub next-accepted : (hop : ℕ) → hop ≤ 65535 → add-number t some (r .prefix) (r .length) hop ≡ 0
-  unfolding add-number refuse
-  next-accepted hop high =
-      rw (
-        le-ltb 32 (r .length) (next-fit .high),
-        loose-false (r .length) (r .prefix) .1 (next-fit .tight),
-        le-ltb 65535 hop high,
-        absent,
-        from-1-never (r .length) (crowded t some (r .length) (r .prefix)) vacancy,
-        from-1-never (r .length) (overflows t some (r .length) (r .prefix)) room,
-      )
+  next-accepted hop high = add-accepted (record {
+    valid = record { high = next-fit .high; tight = next-fit .tight };
+    hop-high = high;
+    vacancy = λ absent. vacancy;
+    room = λ absent. room;
+  })
 
 -- ---- Added anew
 
@@ -120,14 +116,15 @@ accepts : {t : Settings} {routes : List Route} {m : Memory} → Kept t routes m 
 unfolding act add update
 accepts kept r word h = add-by-routes kept (r .prefix) (r .length) (r .hop) word ∙ h
 
-sized : (r : Route) → r .prefix < 2 ^ 32 → word-sized (Add (r .prefix) (r .length) (r .hop)) ≡ true
+pub sized : (r : Route) → r .prefix < 2 ^ 32 → word-sized (Add (r .prefix) (r .length) (r .hop)) ≡ true
 unfolding word-sized
 sized r word = lt-ltb (r .prefix) (2 ^ 32) word
 
-noted-down : (t : Settings) (s : State) (r : Route) → act t (Add (r .prefix) (r .length) (r .hop)) (s .memory) .refusal ≡ 0
+noted-down : (t : Settings) (s : State) (r : Route) → exists (about (r .prefix) (r .length)) (s .routes) ≡ false
+    → act t (Add (r .prefix) (r .length) (r .hop)) (s .memory) .refusal ≡ 0
     → next t s (Add (r .prefix) (r .length) (r .hop)) .routes ≡ r ∷ s .routes
 unfolding next-by noted written
-noted-down t s r e = rw e
+noted-down t s r absent e = rw (e, without-none (r .prefix) (r .length) (s .routes) absent)
 
 pub anew : {t : Settings} {routes : List Route} {m : Memory} → Kept t routes m → (s : State) (more : List Route) → Kept t (s .routes) (s .memory)
     → Parted (s .routes) more routes → Anew t s more routes
@@ -142,7 +139,7 @@ anew {t} kept s (r ∷ more) there parted =
     let call = Add (r .prefix) (r .length) (r .hop) in
     let zero-given = accepts there r (its .word) (next-accepted kept (s .routes) more r parted (r .hop) (its .hop-high)) in
     let rest = anew kept (next t s call) more (kept-next there call (sized r (its .word)))
-    (λ weight. rw (noted-down t s r zero-given) (omega (arith, parted weight))) in
+    (λ weight. rw (noted-down t s r (absent kept (s .routes) more r parted) zero-given) (omega (arith, parted weight))) in
     record { accepted = rw zero-given (rest .accepted); kept = rest .kept; same = rest .same }
 
 -- ---- And from then on
@@ -151,11 +148,14 @@ noted-same : (call : Call) (refusal : ℕ) (one other : List Route) → Same one
 unfolding noted written sum
 noted-same call refusal one other same = by-cases (eqb refusal 0) (λ e. rw e (go call)) (λ e. rw e same)
   where
+    gone : (p L : ℕ) → Same (without p L one) (without p L other)
+    gone p L weight =
+        omega (arith, sum-without p L weight one, sum-without p L weight other, same weight, same (λ r. cond (about p L r) (weight r) 0))
+
     go : (call : Call) → Same (written call one) (written call other)
     go Clear weight = refl
-    go (Add p L hop) weight = ap (λ (n : ℕ). weight (route p L hop) + n) (same weight)
-    go (Withdraw p L) weight =
-        omega (arith, sum-without p L weight one, sum-without p L weight other, same weight, same (λ r. cond (about p L r) (weight r) 0))
+    go (Add p L hop) weight = ap (λ (n : ℕ). weight (route p L hop) + n) (gone p L weight)
+    go (Withdraw p L) weight = gone p L weight
     go (Change p L hop) weight =
         omega (arith, sum-with-hop p L hop weight one, sum-with-hop p L hop weight other, same weight, same (λ r. cond (about p L r) (weight r) 0), same (λ r. cond (about p L r) (weight (route p L hop)) 0))
 

@@ -1,28 +1,27 @@
 -- What a kept table answers, in the words of the demands.
 use Prim.Native.Nat.{ℕ, zero, suc, _^_, _≤_, _<_}
 use mathlib.Core.Path.{_≡_, refl, sym, _∙_}
-use mathlib.Core.Bool.{Bool, true, false, cond, not, _&&_, true≢false, false≢true}
+use mathlib.Core.Bool.{Bool, true, false, cond, _&&_, true≢false, false≢true}
 use mathlib.Core.List.{List, [], _∷_}
 use mathlib.Core.Option.{Option, some, none}
 use mathlib.Core.Logic.{_≢_}
 use native.Mathlib.Nat.{le-refl}
 use native.Mathlib.Omega.{arith}
 use lib.ListN.{length}
-use lib.Dec.{eqb, ltb, leb, lit≤}
-use borrow.Author.Tests.{eq-eqb, lt-ltb, not-false}
+use lib.Dec.{eqb, leb}
+use borrow.Author.Tests.{eq-eqb, lt-ltb}
 use Rattle.rules.specs.declared.Settings.{Settings}
 use Rattle.rules.specs.Tools.{all, those}
-use Rattle.rules.specs.Table.{bucket, in-range, prefix, positions, Memory, loose, refuse, from-1, lookup, down-from}
+use Rattle.rules.specs.Table.{bucket, in-range, prefix, positions, Memory, lookup, down-from}
 use Rattle.rules.proofs.Members.{both}
-use Rattle.rules.proofs.Refusals.{passed}
 use Rattle.rules.proofs.Placing.{ranges, positions-length}
-use Rattle.promises.specs.History.{Route, Call, Clear, Add, Withdraw, Change, word-sized, act, written, noted, about, without, next-by}
-use Rattle.promises.specs.Demands.{Finds, SaysNone, number, beside, number-given, Stored, sum, exists, matches, crowded, overflows, add-number, withdraw-number, change-number, Longest, NoMatch, marks, covered, probes-down-to, in-use, lengths-in-use, longest}
+use Rattle.promises.specs.History.{Route, Call, Add, Withdraw, word-sized, act, written, noted, without, next-by}
+use Rattle.promises.specs.Demands.{Finds, SaysNone, number, beside, number-given, Stored, sum, exists, matches, crowded, add-number, Longest, NoMatch, marks, covered, probes-down-to, in-use, lengths-in-use, longest}
 use Rattle.promises.proofs.Sums.{exists-there, exists-one}
 use Rattle.promises.proofs.Paper.{route, worth, stored-route, paper-withdrawn}
 use Rattle.promises.proofs.Kept.{Kept}
-use Rattle.promises.proofs.Refusals.{from-1-never, number-by-routes}
-use Rattle.promises.proofs.Updates.{checked}
+use Rattle.promises.proofs.Refusals.{number-by-routes}
+use Rattle.promises.proofs.Numbers.{withdrawable, number-not-10, add-not-8}
 use Rattle.promises.proofs.Histories.{kept-next}
 use Rattle.promises.proofs.Anew.{Parted, vacancy, next-accepted}
 use Rattle.promises.proofs.Matches.{answer-by, Right, right}
@@ -99,32 +98,9 @@ module _ {t : Settings} {routes : List Route} {m : Memory} (kept : Kept t routes
 
 -- ---- Numbers given back
 
--- a number that neither a check nor what comes after it gives is not given
-not-this : (k : ℕ) (bad : Bool) (number after : ℕ) → number ≢ k → after ≢ k → refuse bad number after ≢ k
-unfolding refuse
-not-this k true number after here later = here
-not-this k false number after here later = later
-
-not-before-5 : (k p L after : ℕ) → 5 ≤ k → after ≢ k → refuse (ltb 32 L) 3 (refuse (loose L p) 4 after) ≢ k
-not-before-5 k p L after high later = not-this k (ltb 32 L) 3 _ (omega arith) (not-this k (loose L p) 4 after (omega arith) later)
-
 module _ {t : Settings} {routes : List Route} {m : Memory} (kept : Kept t routes m) where
   pub never-10 : (call : Call) → word-sized call ≡ true → act t call m .refusal ≢ 10
-  unfolding number-given add-number withdraw-number change-number
-  never-10 call sized = rw (number-by-routes kept call sized) (go call)
-    where
-      stored-only : (p L : ℕ) → refuse (not (exists (about p L) routes)) 7 0 ≢ 10
-      stored-only p L = not-this 10 (not (exists (about p L) routes)) 7 0 (omega arith) (omega arith)
-
-      go : (call : Call) → number-given t routes call ≢ 10
-      go Clear = omega arith
-      go (Add p L hop) =
-          not-before-5 10 p L _ (lit≤ tt)
-          (not-this 10 (ltb 65535 hop) 5 _ (omega arith)
-          (not-this 10 (exists (about p L) routes) 6 _ (omega arith)
-          (not-this 10 (from-1 L (crowded t routes L p)) 8 _ (omega arith) (not-this 10 (from-1 L (overflows t routes L p)) 9 0 (omega arith) (omega arith)))))
-      go (Withdraw p L) = not-before-5 10 p L _ (lit≤ tt) (stored-only p L)
-      go (Change p L hop) = not-before-5 10 p L _ (lit≤ tt) (not-this 10 (ltb 65535 hop) 5 _ (omega arith) (stored-only p L))
+  never-10 call sized = rw (number-by-routes kept call sized) (number-not-10 t routes call)
 
   -- what an accepted withdrawal leaves
   withdrawn-kept : (p L : ℕ) → p < 2 ^ 32 → act t (Withdraw p L) m .refusal ≡ 0 → Kept t (without p L routes) (act t (Withdraw p L) m .memory)
@@ -137,10 +113,10 @@ module _ {t : Settings} {routes : List Route} {m : Memory} (kept : Kept t routes
     parted : Parted (without p L routes) (route p L hop ∷ []) routes
 
   withdrawal : (p L : ℕ) → p < 2 ^ 32 → act t (Withdraw p L) m .refusal ≡ 0 → Freed p L
-  unfolding number-given withdraw-number sum worth word-sized
+  unfolding number-given sum worth word-sized
   withdrawal p L word e =
-      let four = checked p L _ (sym (number-by-routes kept (Withdraw p L) (lt-ltb p (2 ^ 32) word)) ∙ e) in
-      let old = stored-route p L routes (not-false _ (passed (not (exists (about p L) routes)) 6 0 (four .1) .0)) in
+      let ok = withdrawable routes p L (sym (number-by-routes kept (Withdraw p L) (lt-ltb p (2 ^ 32) word)) ∙ e) in
+      let old = stored-route p L routes (ok .1) in
       record {
         hop = old .0;
         parted = λ weight. omega (arith, paper-withdrawn p L (old .0) (old .1) (kept .once p L) weight);
@@ -160,12 +136,8 @@ module _ {t : Settings} {routes : List Route} {m : Memory} (kept : Kept t routes
 
   pub freed-place : (p L q hop : ℕ) → p < 2 ^ 32 → q < 2 ^ 32 → bucket t q ≡ bucket t p → act t (Withdraw p L) m .refusal ≡ 0
       → act t (Add q L hop) (act t (Withdraw p L) m .memory) .refusal ≢ 8
-  unfolding add-number crowded number beside refuse
+  unfolding crowded number beside
   freed-place p L q hop word word-q same e =
       let free = withdrawal p L word e in
-      let empty = from-1-never L (crowded t (without p L routes) L q) (λ low. rw same (vacancy kept (without p L routes) [] (route p L (free .hop)) (free .parted) low)) in
-      rw (add-after p L q hop word word-q e, empty)
-      (not-before-5 8 q L _ (lit≤ tt)
-      (not-this 8 (ltb 65535 hop) 5 _ (omega arith)
-      (not-this 8 (exists (about q L) (without p L routes)) 6 _ (omega arith)
-      (not-this 8 (from-1 L (overflows t (without p L routes) L q)) 9 0 (omega arith) (omega arith)))))
+      rw (add-after p L q hop word word-q e)
+      (add-not-8 t (without p L routes) q L hop (λ low. rw same (vacancy kept (without p L routes) [] (route p L (free .hop)) (free .parted) low)))

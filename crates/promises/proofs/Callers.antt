@@ -14,7 +14,7 @@ use Rattle.rules.specs.declared.Vector.{Vector}
 use Rattle.rules.specs.Tools.{all}
 use Rattle.rules.specs.Table.{bucket, bits-where}
 use Rattle.promises.specs.History.{Route, Call, Add, Withdraw, about, word-sized}
-use Rattle.promises.specs.Demands.{Stored, number, Reordered, matches, Longest, NoMatch, Finds, SaysNone, number-given, covered, probes-down-to, lengths-in-use, adds, filter-sum}
+use Rattle.promises.specs.Demands.{Stored, number, Reordered, matches, Longest, NoMatch, Finds, SaysNone, SameButHop, number-given, covered, probes-down-to, lengths-in-use, adds, filter-sum}
 use Rattle.promises.specs.Calls.{Made, calls-of, numbers-of, on-paper}
 use Rattle.promises.proofs.Contracts.{Called, called-ensured, called-word, Looked, looked-given, looked-word, ListCalled, list-given, list-words, Matched, matched-given, matched-word, Calling, calling-ran, calling-words, Serving, served}
 use Rattle.promises.proofs.Calls as promise
@@ -92,6 +92,36 @@ module _ {t : Settings} {log : List Made} {counters slots : List ℕ} (serving :
     unfolding word-sized
     freed-for-others {q} {hop} {r} {counters″} {slots″} beside added =
         promise.freed-for-others (served serving) p L q hop (ltb-true p _ (called-word freed)) (ltb-true q _ (called-word added)) beside counters' slots' (called-ensured freed) r counters″ slots″ (called-ensured added)
+
+  -- ---- What an add of a stored route gives back and leaves
+
+  module _ {stored : Route} (stands : Stored stored routes) {hop r : ℕ} {counters' slots' : List ℕ} (high : hop ≤ 65535)
+      (again : Called t (Add (stored .prefix) (stored .length) hop) counters slots r counters' slots') where
+    -- It is accepted, whatever else is stored.
+    pub stored-accepted : r ≡ 0
+    stored-accepted = promise.stored-accepted (served serving) stored stands hop high r counters' slots' (called-ensured again)
+
+    -- An address of which the route is the longest match then gets the new hop,
+    pub replaced-found : {address : ℕ} {answer : Answer} → Looked t counters' slots' address answer
+        → Longest address routes stored → Finds answer (record { prefix = stored .prefix; length = stored .length; hop = hop })
+    replaced-found {address} {answer} looked = promise.replaced-found (served serving) stored stands hop high r counters' slots' (called-ensured again)
+        address (looked-word looked) answer (looked-given looked)
+
+    module _ {address : ℕ} {answer new-answer : Answer} (looked : Looked t counters slots address answer) (looked-again : Looked t counters' slots' address new-answer) where
+      -- any other is answered as before,
+      pub replaced-others : (Longest address routes stored → ⊥) → new-answer ≡ answer
+      replaced-others = promise.replaced-others (served serving) stored stands hop high r counters' slots' (called-ensured again)
+          address (looked-word looked) answer new-answer (looked-given looked) (looked-given looked-again)
+
+      -- and no probe count changes: a lookup answers as before, but for the hop,
+      pub replaced-lookups : SameButHop new-answer answer
+      replaced-lookups = promise.replaced-lookups (served serving) stored stands hop high r counters' slots' (called-ensured again)
+          address (looked-word looked) answer new-answer (looked-given looked) (looked-given looked-again)
+
+    -- nor does a match vector.
+    pub replaced-vectors : {address : ℕ} {vector new-vector : Vector} → Matched t counters slots address vector → Matched t counters' slots' address new-vector → new-vector ≡ vector
+    replaced-vectors {address} {vector} {new-vector} one other = promise.replaced-vectors (served serving) stored stands hop high r counters' slots' (called-ensured again)
+        address (matched-word one) vector new-vector (matched-given one) (matched-given other)
 
   -- ---- What is stored, and the counters
 

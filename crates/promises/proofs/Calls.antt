@@ -13,7 +13,7 @@ use Rattle.rules.specs.declared.Vector.{Vector}
 use Rattle.rules.specs.Tools.{all}
 use Rattle.rules.specs.Table.{in-range, bucket, Memory, lent, left, sized, refused, bits-where, match-vector, lookup}
 use Rattle.promises.specs.History.{Route, Call, Clear, Add, Withdraw, Change, word-sized, all-word-sized, act, ask, ask-vector, about, noted, State, next, after, history, next-by, after-by, history-by}
-use Rattle.promises.specs.Demands.{Stored, number, Reordered, matches, Longest, NoMatch, Finds, SaysNone, memory-conditions, conditions, NoneMet, FirstMet, number-given, covered, probes-down-to, lengths-in-use, adds, refusals, filter-sum}
+use Rattle.promises.specs.Demands.{Stored, number, Reordered, matches, Longest, NoMatch, Finds, SaysNone, SameButHop, there, memory-conditions, conditions, NoneMet, FirstMet, number-given, covered, probes-down-to, lengths-in-use, adds, refusals, filter-sum}
 use Rattle.promises.specs.Calls.{Ensured, Made, Ran, Stop, Step, Ask, calls-of, numbers-of, on-paper, Served}
 use Rattle.promises.proofs.Promises as promise
 use Rattle.promises.proofs.Refused as demand-1
@@ -38,6 +38,10 @@ module _ (t : Settings) (call : Call) (counters slots : List ℕ) (r : ℕ) (cou
   pub accepted-exactly : (r ≡ 0) ↔ NoneMet (conditions t call (lent counters slots))
   accepted-exactly = rw (ap (λ u. u .refusal) (acted t call counters slots ensured)) at (demand-1.accepted-exactly t call (lent counters slots))
 
+  -- 6 never is.
+  pub never-six : r ≢ 6
+  never-six six = demand-1.never-six t call (lent counters slots) (ap (λ u. u .refusal) (acted t call counters slots ensured) ∙ six)
+
   -- A refused call leaves every lent byte and word as it was.
   pub refused-unchanged : r ≢ 0 → (counters' ≡ counters) × (slots' ≡ slots)
   refused-unchanged bad =
@@ -50,6 +54,16 @@ module _ (t : Settings) (call : Call) (counters slots : List ℕ) (r : ℕ) (cou
   determined q counters″ slots″ other =
       let same = sym (acted t call counters slots other) ∙ acted t call counters slots ensured in
       (ap (λ u. u .refusal) same, ap (λ u. u .memory .counters) same, ap (λ u. u .memory .slots) same)
+
+-- An add of a prefix that is stored gives back and leaves what a change of it does, and every counter stays.
+module _ (t : Settings) (p L hop : ℕ) (counters slots : List ℕ) (r : ℕ) (counters' slots' : List ℕ)
+    (ensured : Ensured t (Add p L hop) counters slots r counters' slots') (stands : there t slots L p ≡ true) where
+  pub stored-changes : Ensured t (Change p L hop) counters slots r counters' slots'
+  unfolding act
+  stored-changes = sym (demand-1.stored-changes t (lent counters slots) p L hop stands) ∙ ensured
+
+  pub counters-stay : counters' ≡ counters
+  counters-stay = sym (ap (λ u. u .memory .counters) (acted t (Add p L hop) counters slots ensured)) ∙ demand-1.counters-stay t (lent counters slots) p L hop stands
 
 -- A clear is accepted under settings in range, over lists of their sizes: a log can always begin.
 pub clear-accepted : (t : Settings) (counters slots : List ℕ) → in-range t ≡ true → sized t (lent counters slots) ≡ true
@@ -234,6 +248,46 @@ module _ {t : Settings} {log : List Made} {counters slots : List ℕ} (served : 
       let out = acted t (Withdraw p L) counters slots freed in
       let promised = rw (same-memory, ap (λ u. u .memory) out) at (promise.freed-for-others t before calls accepted words p L q hop word other-word same-bucket) in
       promised (ap (λ u. u .refusal) out) (ap (λ u. u .refusal) (acted t (Add q L hop) counters' slots' added) ∙ eight)
+
+  -- ---- What an add of a stored route gives back and leaves
+
+  module _ (stored : Route) (stands : Stored stored routes) (hop : ℕ) (high : hop ≤ 65535) (r : ℕ) (counters' slots' : List ℕ)
+      (again : Ensured t (Add (stored .prefix) (stored .length) hop) counters slots r counters' slots') where
+    told : act t (Add (stored .prefix) (stored .length) hop) (lent counters slots) ≡ left r counters' slots'
+    told = acted t (Add (stored .prefix) (stored .length) hop) counters slots again
+
+    -- It is accepted, whatever else is stored.
+    pub stored-accepted : r ≡ 0
+    stored-accepted = sym (ap (λ u. u .refusal) told)
+        ∙ (rw (same-memory, same-routes) at (promise.stored-accepted t before calls accepted words)) stored stands hop high
+
+    -- An address of which the route is the longest match then gets the new hop.
+    pub replaced-found : (address : ℕ) → address < 2 ^ 32 → (answer : Answer) → answer ≡ lookup t (lent counters' slots') address
+        → Longest address routes stored → Finds answer (record { prefix = stored .prefix; length = stored .length; hop = hop })
+    unfolding ask
+    replaced-found address word answer given = rw (given, ← ap (λ u. u .memory) told)
+        ((rw (same-memory, same-routes) at (promise.replaced-found t before calls accepted words)) stored stands hop high address word)
+
+    module _ (address : ℕ) (word : address < 2 ^ 32) (answer new-answer : Answer)
+        (given : answer ≡ lookup t (lent counters slots) address) (new-given : new-answer ≡ lookup t (lent counters' slots') address) where
+      -- Any other is answered as before.
+      pub replaced-others : (Longest address routes stored → ⊥) → new-answer ≡ answer
+      unfolding ask
+      replaced-others = rw (given, new-given, ← ap (λ u. u .memory) told)
+          ((rw (same-memory, same-routes) at (promise.replaced-others t before calls accepted words)) stored stands hop high address word)
+
+      -- No probe count changes: a lookup answers as before, but for the hop.
+      pub replaced-lookups : SameButHop new-answer answer
+      unfolding ask
+      replaced-lookups = rw (given, new-given, ← ap (λ u. u .memory) told)
+          ((rw (same-memory, same-routes) at (promise.replaced-lookups t before calls accepted words)) stored stands hop high address word)
+
+    -- Nor does a match vector.
+    pub replaced-vectors : (address : ℕ) → address < 2 ^ 32 → (vector new-vector : Vector)
+        → vector ≡ match-vector t (lent counters slots) address → new-vector ≡ match-vector t (lent counters' slots') address → new-vector ≡ vector
+    unfolding ask-vector
+    replaced-vectors address word vector new-vector given new-given = rw (given, new-given, ← ap (λ u. u .memory) told)
+        ((rw (same-memory, same-routes) at (promise.replaced-vectors t before calls accepted words)) stored stands hop high address word)
 
   -- ---- What is stored, and the counters
 

@@ -2,14 +2,14 @@
 -- gives back is the number of the first condition that is met.
 use Prim.Native.Nat.{ℕ, zero, suc, _≤_, _<_}
 use mathlib.Core.Path.{_≡_, refl, sym, ap, ap₂, _∙_}
-use mathlib.Core.Bool.{Bool, true, false, cond, not, _&&_, _||_}
+use mathlib.Core.Bool.{Bool, true, false, cond, not, _&&_, _||_, true≢false}
 use mathlib.Core.List.{List, [], _∷_, _++_, map, List·Memᴰ·head, List·Memᴰ·tail, List·Memᴰ·not-nil, append-nil}
 use mathlib.Core.Option.{Option, some, none}
-use mathlib.Core.Logic.{_↔_}
+use mathlib.Core.Logic.{_↔_, _≢_}
 use native.Mathlib.Omega.{arith}
 use lib.Dec.{ltb, leb, eqb}
 use lib.ListN.{length}
-use borrow.Author.Tests.{ltb-true, leb-true, leb-false, lt-ltb, le-ltb, ne-eqb}
+use borrow.Author.Tests.{ltb-true, leb-true, leb-false, lt-ltb, le-ltb, eq-eqb, ne-eqb}
 use Rattle.rules.specs.declared.Settings.{Settings}
 use Rattle.rules.specs.Tools.{within, all as every, lowest, or-else}
 use Rattle.rules.specs.Table.{in-range, Memory, counters-size, slots-size, slot-number, occupied, mark-at, prefix-at, holds, free, held, vacant, is-some, stored, refuse, sized, from-1, full, passes-15, runs-short, memory-refusal, add-refusal, withdraw-refusal, change-refusal, update, clear, add, withdraw, change, fourfold, list-refusal}
@@ -72,10 +72,25 @@ unmet-all (c ∷ rest) numbers e =
     go true met e positive later = absurd (omega arith)
     go false unmet e positive later = none-of c unmet (later e)
 
+-- a number that no condition has is not given
+unlisted : (n : ℕ) → 1 ≤ n → (all : List Condition) → every (λ k. not (eqb k n)) (map (λ c. c .number) all) ≡ true → first-met all ≢ n
+unfolding every first-met refuse
+unlisted n low [] others = omega arith
+unlisted n low (c ∷ rest) others =
+    let parts = both (not (eqb (c .number) n)) _ others in
+    go (c .met) (λ e. true≢false (sym (parts .0) ∙ ap not (eq-eqb (c .number) n e))) (unlisted n low rest (parts .1))
+  where
+    go : (b : Bool) → c .number ≢ n → first-met rest ≢ n → cond b (c .number) (first-met rest) ≢ n
+    go true here later = here
+    go false here later = later
+
 -- a number that was given back for the first condition met
 module _ (all : List Condition) {given : ℕ} (first : given ≡ first-met all) where
   pub given-exactly : (n : ℕ) → 1 ≤ n → (given ≡ n) ↔ FirstMet n all
   given-exactly n low = (λ e. first-given all n low (sym first ∙ e), λ its. first ∙ first-is all n its)
+
+  pub never-given : (n : ℕ) → 1 ≤ n → every (λ k. not (eqb k n)) (map (λ c. c .number) all) ≡ true → given ≢ n
+  never-given n low others = rw first (unlisted n low all others)
 
   pub none-exactly : numbered all ≡ true → (given ≡ 0) ↔ NoneMet all
   unfolding first-met
@@ -114,7 +129,7 @@ not-some-below test (suc n) = go (some-below (λ s. not (test s)) n) (test n) (n
     go false true e = rw (← e)
     go false false e = rw (← e)
 
-stored-there : (t : Settings) (slots : List ℕ) (L p : ℕ) → stored t slots L p ≡ there t slots L p
+pub stored-there : (t : Settings) (slots : List ℕ) (L p : ℕ) → stored t slots L p ≡ there t slots L p
 unfolding stored there held holds
 stored-there t slots L p = rw (is-some-below (λ s. occupied (mark-at slots (slot-number t L p s)) && eqb (prefix-at slots (slot-number t L p s)) p) (t .s))
 
@@ -163,8 +178,7 @@ add-first t m p L hop =
       loose-low L p,
       stored-there t (m .slots) L p,
       full-left t (m .slots) L p,
-      from-1-up L (no-slot-left t (m .slots) L p),
-      from-1-up L (passes-15 t (m .counters) L p),
+      from-1-up L (not (there t (m .slots) L p)),
     )
 
 withdraw-first : (t : Settings) (m : Memory) (p L : ℕ) → withdraw-refusal t m p L ≡ first-met (conditions t (Withdraw p L) m)

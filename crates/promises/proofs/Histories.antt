@@ -1,19 +1,19 @@
 -- Every history keeps memory and paper together: a clear begins it, an accepted call keeps it, a refused one changes nothing.
 use Prim.Native.Nat.{ℕ, _^_, zero-le}
 use mathlib.Core.Path.{_≡_, refl, sym, _∙_}
-use mathlib.Core.Bool.{true, cond, not}
+use mathlib.Core.Bool.{true, cond}
 use mathlib.Core.List.{List, [], _∷_}
 use native.Mathlib.Omega.{arith}
 use lib.ListN.{length, replicate, length-replicate, getD-replicate}
-use lib.Dec.{eqb, ltb}
-use borrow.Author.Tests.{eqb-true, ltb-true, ltb-false, not-false}
+use lib.Dec.{eqb}
+use borrow.Author.Tests.{eqb-true, ltb-true}
 use Rattle.rules.specs.declared.Settings.{Settings}
 use Rattle.rules.specs.Table.{Memory, slots-size, slot-number, mark-word, default-word, mark-at, default-mark, sized, memory-refusal, update, zeroed, clear, add, withdraw, change}
 use Rattle.rules.proofs.Members.{both}
-use Rattle.rules.proofs.Refusals.{passed, memory-passed}
+use Rattle.rules.proofs.Refusals.{memory-passed}
 use Rattle.rules.proofs.Placing.{words-fit, default-fits}
-use Rattle.promises.specs.History.{Route, Call, Clear, Add, Withdraw, Change, word-sized, all-word-sized, act, written, noted, State, next, after, history, about, next-by, after-by, history-by}
-use Rattle.promises.specs.Demands.{sum, number, exists, landings, withdraw-number, change-number}
+use Rattle.promises.specs.History.{Route, Call, Clear, Add, Withdraw, Change, word-sized, all-word-sized, act, written, noted, State, next, after, history, next-by, after-by, history-by}
+use Rattle.promises.specs.Demands.{sum, number, landings}
 use Rattle.promises.proofs.Sums.{by-cases}
 use Rattle.promises.proofs.Below.{none-below-weighs}
 use Rattle.promises.proofs.Slots.{slot-weight, bucket-weight}
@@ -21,7 +21,8 @@ use Rattle.promises.proofs.Buckets.{SlotsKept}
 use Rattle.promises.proofs.Counters.{kept-none}
 use Rattle.promises.proofs.Kept.{Kept}
 use Rattle.promises.proofs.Refusals.{add-by-routes, withdraw-by-routes, change-by-routes}
-use Rattle.promises.proofs.Updates.{checked, addable, weigh-zero, added-keeps, withdrawn-keeps, changed-keeps}
+use Rattle.promises.proofs.Numbers.{addable, withdrawable, changeable}
+use Rattle.promises.proofs.Updates.{weigh-zero, added-keeps, withdrawn-keeps, changed-keeps}
 
 -- ---- Clear
 
@@ -59,7 +60,7 @@ kept-or refusal later left kept accepted = by-cases (eqb refusal 0)
 
 pub kept-next : {t : Settings} {s : State} → Kept t (s .routes) (s .memory) → (call : Call) → word-sized call ≡ true
     → Kept t (next t s call .routes) (next t s call .memory)
-unfolding next-by act noted written word-sized clear add withdraw change update withdraw-number change-number
+unfolding next-by act noted written word-sized clear add withdraw change update
 kept-next {t} {s} kept Clear sized = kept-or (memory-refusal t (s .memory) 0) [] (zeroed (s .memory)) kept (cleared t (s .memory))
 kept-next {t} {s} kept (Add p L hop) sized =
     let word = ltb-true p (2 ^ 32) sized in
@@ -67,15 +68,13 @@ kept-next {t} {s} kept (Add p L hop) sized =
 kept-next {t} {s} kept (Withdraw p L) sized =
     let word = ltb-true p (2 ^ 32) sized in
     kept-or _ _ _ kept (λ e.
-    let four = checked p L _ (sym (withdraw-by-routes kept p L word) ∙ e) in
-    withdrawn-keeps kept p word L (four .0) (not-false _ (passed (not (exists (about p L) (s .routes))) 6 0 (four .1) .0)))
+    let ok = withdrawable (s .routes) p L (sym (withdraw-by-routes kept p L word) ∙ e) in
+    withdrawn-keeps kept p word L (ok .0) (ok .1))
 kept-next {t} {s} kept (Change p L hop) sized =
     let word = ltb-true p (2 ^ 32) sized in
     kept-or _ _ _ kept (λ e.
-    let four = checked p L _ (sym (change-by-routes kept p L hop word) ∙ e) in
-    let five = passed (ltb 65535 hop) 4 _ (four .1) in
-    changed-keeps kept p word L hop (four .0) (ltb-false 65535 hop (five .0))
-    (not-false _ (passed (not (exists (about p L) (s .routes))) 6 0 (five .1) .0)))
+    let ok = changeable (s .routes) p L hop (sym (change-by-routes kept p L hop word) ∙ e) in
+    changed-keeps kept p word L hop (ok .0) (ok .1) (ok .2))
 
 -- ---- A history
 

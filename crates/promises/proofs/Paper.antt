@@ -1,7 +1,7 @@
 -- What an accepted call changes on paper: the route of p and L had one hop, if any, and has another now, if any.
 use Prim.Native.Nat.{ℕ, _+_, _≤_}
-use mathlib.Core.Path.{_≡_, refl, sym}
-use mathlib.Core.Bool.{Bool, true, false, cond}
+use mathlib.Core.Path.{_≡_, refl, sym, ap}
+use mathlib.Core.Bool.{Bool, true, false, cond, _||_, true≢false}
 use mathlib.Core.List.{List, [], _∷_, Memᴰ·cast}
 use mathlib.Core.Option.{Option, some, none}
 use native.Mathlib.Omega.{arith}
@@ -84,10 +84,22 @@ stored-route p L routes there =
     let its = about-true p L (r .0) (r .2) in
     (r .0 .hop, Memᴰ·cast (route-of (r .0) (its .0) (its .1)) (r .1))
 
+-- without what is not there all stays
+pub without-none : (p L : ℕ) (routes : List Route) → exists (about p L) routes ≡ false → without p L routes ≡ routes
+unfolding without exists
+without-none p L [] absent = refl
+without-none p L (r ∷ routes) absent = go (about p L r) absent (without-none p L routes)
+  where
+    go : (b : Bool) → b || exists (about p L) routes ≡ false → (exists (about p L) routes ≡ false → without p L routes ≡ routes)
+        → cond b (without p L routes) (r ∷ without p L routes) ≡ r ∷ routes
+    go true e rest = absurd (true≢false e)
+    go false e rest = ap (λ others. r ∷ others) (rest e)
+
 -- an add has a route where there was none
-pub paper-added : (p L hop : ℕ) (routes : List Route) → Paper p L none (some hop) routes (route p L hop ∷ routes)
+pub paper-added : (p L hop : ℕ) (routes : List Route) → exists (about p L) routes ≡ false
+    → Paper p L none (some hop) routes (route p L hop ∷ without p L routes)
 unfolding worth sum
-paper-added p L hop routes weight = omega arith
+paper-added p L hop routes absent weight = rw (without-none p L routes absent) (omega arith)
 
 -- a withdrawal has none where there was a route, the only one of that prefix and length
 pub paper-withdrawn : (p L hop : ℕ) {routes : List Route} → Stored (route p L hop) routes → number (about p L) routes ≤ 1
@@ -97,7 +109,13 @@ paper-withdrawn p L hop {routes} stored once weight =
     let gone = rw (only-one (about p L) weight stored (own-about p L hop) once) at (sum-without p L weight routes) in
     omega arith
 
--- a change has another hop
+-- an add has another hop where there was one
+pub paper-replaced : (p L old hop : ℕ) {routes : List Route} → Stored (route p L old) routes → number (about p L) routes ≤ 1
+    → Paper p L (some old) (some hop) routes (route p L hop ∷ without p L routes)
+unfolding worth sum
+paper-replaced p L old hop stored once weight = omega (arith, paper-withdrawn p L old stored once weight)
+
+-- and so a change
 pub paper-changed : (p L old hop : ℕ) {routes : List Route} → Stored (route p L old) routes → number (about p L) routes ≤ 1
     → Paper p L (some old) (some hop) routes (with-hop p L hop routes)
 unfolding worth

@@ -1,7 +1,7 @@
 -- Each promise's premises are met by a small worked history: computed, and handed to the promise.
 use Prim.Native.Nat.{ℕ, zero, suc}
-use mathlib.Core.Path.{_≡_, refl, ap}
-use mathlib.Core.Bool.{true, false}
+use mathlib.Core.Path.{_≡_, refl, sym, ap, _∙_}
+use mathlib.Core.Bool.{true, false, true≢false}
 use mathlib.Core.List.{List, [], _∷_}
 use mathlib.Core.Logic.{_≢_}
 use native.Mathlib.Omega.{arith}
@@ -26,7 +26,7 @@ use Rattle.promises.specs.Calls.{Ensured, Made, Ran, Stop, Step, Ask, ca
 use Rattle.promises.proofs.Agree.{sevens, computing}
 use Rattle.promises.proofs.Paper.{route}
 use Rattle.promises.proofs.Matches.{right}
-use Rattle.promises.proofs.Promises.{finds-longest, finds-default, none-exactly, freed-again, freed-for-others, all-accepted}
+use Rattle.promises.proofs.Promises.{finds-longest, finds-default, none-exactly, stored-accepted, replaced-found, replaced-others, freed-again, freed-for-others, all-accepted}
 use Rattle.promises.proofs.Contracts.{Called, ClearCalled, AddCalled, called-ensured, Looked, LookupCalled, ListCalled, LookupListCalled, place-looked, Ended, Next, NextList, Serving}
 use Rattle.promises.proofs.Callers as caller
 
@@ -52,7 +52,7 @@ day =
 morning : List Call
 morning = Add (ip 10 0 0 0) 8 7 ∷ Add (ip 10 1 0 0) 16 9 ∷ []
 
-day-given : same (refusals T (history T sevens []) day) (0 ∷ 0 ∷ 0 ∷ 6 ∷ 4 ∷ 3 ∷ 5 ∷ 7 ∷ 0 ∷ 0 ∷ 8 ∷ 0 ∷ 0 ∷ []) ≡ true
+day-given : same (refusals T (history T sevens []) day) (0 ∷ 0 ∷ 0 ∷ 0 ∷ 4 ∷ 3 ∷ 5 ∷ 7 ∷ 0 ∷ 0 ∷ 8 ∷ 0 ∷ 0 ∷ []) ≡ true
 unfolding day same refusals computing
 day-given = refl
 
@@ -68,10 +68,10 @@ morning-sized : all-word-sized morning ≡ true
 unfolding all-word-sized word-sized morning
 morning-sized = refl
 
--- three routes match 10.1.2.3, and one of them is the longest
-longest-met : Finds (ask T (ip 10 1 2 3) (history T sevens day .memory)) (route (ip 10 1 0 0) 16 9)
+-- three routes match 10.1.2.3, and one of them is the longest; it was added twice, and has the last hop
+longest-met : Finds (ask T (ip 10 1 2 3) (history T sevens day .memory)) (route (ip 10 1 0 0) 16 1)
 unfolding day longest longer matches computing
-longest-met = finds-longest T sevens day cleared day-sized (ip 10 1 2 3) (lit< tt) (route (ip 10 1 0 0) 16 9) (right (ip 10 1 2 3) (history T sevens day .routes))
+longest-met = finds-longest T sevens day cleared day-sized (ip 10 1 2 3) (lit< tt) (route (ip 10 1 0 0) 16 1) (right (ip 10 1 2 3) (history T sevens day .routes))
 
 -- only the default matches 12.0.0.1
 default-best : Longest (ip 12 0 0 1) (history T sevens day .routes) (route 0 0 3)
@@ -99,6 +99,27 @@ pair = Add (ip 10 0 0 0) 8 7 ∷ Add (ip 8 0 0 0) 8 5 ∷ []
 place-met : act T (Add (ip 9 0 0 0) 8 6) (act T (Withdraw (ip 8 0 0 0) 8) (history T sevens pair .memory) .memory) .refusal ≢ 8
 unfolding pair computing all-word-sized word-sized
 place-met = freed-for-others T sevens pair cleared refl (ip 8 0 0 0) 8 (ip 9 0 0 0) 6 (lit< tt) (lit< tt) refl refl
+
+-- 8/8 is added again in its full bucket: it is accepted, 8.1.2.3 gets the new hop, and 12.0.0.1, which nothing matches, is
+-- answered as before
+eight-stored : Longest (ip 8 1 2 3) (history T sevens pair .routes) (route (ip 8 0 0 0) 8 5)
+unfolding pair longest longer matches computing
+eight-stored = right (ip 8 1 2 3) (history T sevens pair .routes)
+
+pair-sized : all-word-sized pair ≡ true
+unfolding pair all-word-sized word-sized
+pair-sized = refl
+
+again-met : act T (Add (ip 8 0 0 0) 8 6) (history T sevens pair .memory) .refusal ≡ 0
+again-met = stored-accepted T sevens pair cleared pair-sized (route (ip 8 0 0 0) 8 5) (eight-stored .stored) 6 (lit≤ tt)
+
+again-found-met : Finds (ask T (ip 8 1 2 3) (act T (Add (ip 8 0 0 0) 8 6) (history T sevens pair .memory) .memory)) (route (ip 8 0 0 0) 8 6)
+again-found-met = replaced-found T sevens pair cleared pair-sized (route (ip 8 0 0 0) 8 5) (eight-stored .stored) 6 (lit≤ tt) (ip 8 1 2 3) (lit< tt) eight-stored
+
+others-met : ask T (ip 12 0 0 1) (act T (Add (ip 8 0 0 0) 8 6) (history T sevens pair .memory) .memory) ≡ ask T (ip 12 0 0 1) (history T sevens pair .memory)
+unfolding pair longest longer matches computing
+others-met = replaced-others T sevens pair cleared pair-sized (route (ip 8 0 0 0) 8 5) (eight-stored .stored) 6 (lit≤ tt) (ip 12 0 0 1) (lit< tt)
+    (λ best. true≢false (sym (best .matching) ∙ right (ip 12 0 0 1) (history T sevens pair .routes) (route (ip 8 0 0 0) 8 5) (eight-stored .stored)))
 
 -- the two routes of the morning, the first one first
 order : List Route

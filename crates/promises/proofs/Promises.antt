@@ -16,7 +16,7 @@ use Rattle.rules.specs.Tools.{all}
 use Rattle.rules.specs.Table.{in-range, bucket, Memory, sized, refuse, update, clear, match-vector, bits-where}
 use Rattle.rules.proofs.Refusals.{memory-order}
 use Rattle.promises.specs.History.{Route, Call, Clear, Add, Withdraw, word-sized, all-word-sized, act, ask, ask-vector, after, history, about, after-by, history-by}
-use Rattle.promises.specs.Demands.{Stored, sum, number, Reordered, matches, Longest, NoMatch, Finds, SaysNone, number-given, covered, probes-down-to, lengths-in-use, adds, refusals, filter-sum}
+use Rattle.promises.specs.Demands.{Stored, sum, number, Reordered, matches, Longest, NoMatch, Finds, SaysNone, SameButHop, number-given, covered, probes-down-to, lengths-in-use, adds, refusals, filter-sum}
 use Rattle.promises.proofs.Sums.{sum-reordered}
 use Rattle.promises.proofs.Counters.{filter-sum-kept}
 use Rattle.promises.proofs.Kept.{Kept, ready}
@@ -26,6 +26,7 @@ use Rattle.promises.proofs.Matches.{vector-by}
 use Rattle.promises.proofs.Lookups.{lookup-by-routes, vector-by-routes}
 use Rattle.promises.proofs.Anew.{Anew, anew, kept-same, Alike, alike}
 use Rattle.promises.proofs.Answers.{finds, default-longest, says, finds-none, probes, probes-few, never-10, freed, freed-place}
+use Rattle.promises.proofs.Replaced.{again-accepted, again-finds, again-others, again-lookup, again-vector}
 
 -- A history can always begin: under settings in range, over lists of their sizes, a clear is accepted.
 pub clear-accepted : (t : Settings) (before : Memory) → in-range t ≡ true → sized t before ≡ true → act t Clear before .refusal ≡ 0
@@ -74,6 +75,24 @@ module _ (t : Settings) (before : Memory) (calls : List Call) (cleared : act t C
   pub numbers-given : (call : Call) → word-sized call ≡ true → act t call m .refusal ≡ number-given t routes call
   numbers-given = number-by-routes kept
 
+  -- An add of a stored route, with any hop that is valid, is accepted, whatever else is stored.
+  pub stored-accepted : (r : Route) → Stored r routes → (hop : ℕ) → hop ≤ 65535 → act t (Add (r .prefix) (r .length) hop) m .refusal ≡ 0
+  stored-accepted = again-accepted kept
+
+  -- An address of which the route is the longest match then gets the new hop,
+  pub replaced-found : (r : Route) → Stored r routes → (hop : ℕ) → hop ≤ 65535 → (address : ℕ) → address < 2 ^ 32 → Longest address routes r
+      → Finds (ask t address (act t (Add (r .prefix) (r .length) hop) m .memory)) (record { prefix = r .prefix; length = r .length; hop = hop })
+  unfolding ask
+  replaced-found r stored hop high address word longest =
+      let its = again-finds kept r stored hop high address word longest in
+      record { refusal = its .refusal; found = its .found; hop = its .hop; length = its .length }
+
+  -- and any other is answered as before.
+  pub replaced-others : (r : Route) → Stored r routes → (hop : ℕ) → hop ≤ 65535 → (address : ℕ) → address < 2 ^ 32 → (Longest address routes r → ⊥)
+      → ask t address (act t (Add (r .prefix) (r .length) hop) m .memory) ≡ ask t address m
+  unfolding ask
+  replaced-others = again-others kept
+
   -- Number 10 is never given.
   pub never-ten : (call : Call) → word-sized call ≡ true → act t call m .refusal ≢ 10
   never-ten = never-10 kept
@@ -101,6 +120,20 @@ module _ (t : Settings) (before : Memory) (calls : List Call) (cleared : act t C
   pub probes-bounded : (address : ℕ) → address < 2 ^ 32 → ask t address m .probes ≤ lengths-in-use routes
   unfolding ask
   probes-bounded = probes-few kept
+
+  -- An add of a stored route changes no probe count: a lookup answers as before, but for the hop.
+  pub replaced-lookups : (r : Route) → Stored r routes → (hop : ℕ) → hop ≤ 65535 → (address : ℕ) → address < 2 ^ 32
+      → SameButHop (ask t address (act t (Add (r .prefix) (r .length) hop) m .memory)) (ask t address m)
+  unfolding ask
+  replaced-lookups r stored hop high address word =
+      let its = again-lookup kept r stored hop high address word in
+      record { refusal = its .refusal; found = its .found; length = its .length; probes = its .probes }
+
+  -- Nor does it change a match vector.
+  pub replaced-vectors : (r : Route) → Stored r routes → (hop : ℕ) → hop ≤ 65535 → (address : ℕ) → address < 2 ^ 32
+      → ask-vector t address (act t (Add (r .prefix) (r .length) hop) m .memory) ≡ ask-vector t address m
+  unfolding ask-vector
+  replaced-vectors = again-vector kept
 
   -- A table newly cleared under these settings, over memory that held anything, and the stored routes in any order.
   module _ (new : Memory) (new-cleared : act t Clear new .refusal ≡ 0) (order : List Route) (same : Reordered routes order) where

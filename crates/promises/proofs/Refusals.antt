@@ -1,7 +1,7 @@
 -- Each condition of the rules, read off a table that is kept, is one on the stored routes.
 use Prim.Native.Nat.{ℕ, zero, suc, _^_, _≤_, _<_}
 use mathlib.Core.Path.{_≡_, refl, sym, ap, _∙_}
-use mathlib.Core.Bool.{Bool, true, false}
+use mathlib.Core.Bool.{Bool, true, false, _&&_}
 use mathlib.Core.List.{List}
 use native.Mathlib.Omega.{arith}
 use lib.ListN.{length}
@@ -12,20 +12,20 @@ use Rattle.rules.specs.Table.{update, clear, add, withdraw, change, prefix, Mem
 use Rattle.rules.proofs.Refusals.{fits as no-refusal, add-order, withdraw-order, change-order}
 use Rattle.rules.proofs.Prefixes.{prefix-zero, loose-false}
 use Rattle.promises.specs.History.{Call, Clear, Add, Withdraw, Change, Route, word-sized, act, about}
-use Rattle.promises.specs.Demands.{number-given, exists, add-number, withdraw-number, change-number}
+use Rattle.promises.specs.Demands.{number-given, exists, needs-place, add-number, withdraw-number, change-number}
 use Rattle.promises.proofs.Sums.{by-cases, exists-there, exists-one, none-exists}
 use Rattle.promises.proofs.Buckets.{held-exists, full-crowded, default-stored, default-free}
 use Rattle.promises.proofs.Counters.{passes-overflows, never-short}
 use Rattle.promises.proofs.Paper.{about-true}
 use Rattle.promises.proofs.Kept.{Kept, fits, ready}
 
--- a condition on buckets or counters from length 1 on
-from-1-same : (L : ℕ) (bad other : Bool) → (1 ≤ L → bad ≡ other) → from-1 L bad ≡ from-1 L other
+-- a condition on buckets or counters, of what needs a place
+place-same : (L : ℕ) (fresh bad other : Bool) → (1 ≤ L → bad ≡ other) → from-1 L fresh && bad ≡ from-1 L fresh && other
 unfolding from-1
-from-1-same zero bad other h = refl
-from-1-same (suc L) bad other h = rw (ne-eqb (suc L) 0 (omega arith)) (h (omega arith))
+place-same zero fresh bad other h = refl
+place-same (suc L) fresh bad other h = rw (h (omega arith))
 
-pub from-1-never : (L : ℕ) (bad : Bool) → (1 ≤ L → bad ≡ false) → from-1 L bad ≡ false
+from-1-never : (L : ℕ) (bad : Bool) → (1 ≤ L → bad ≡ false) → from-1 L bad ≡ false
 unfolding from-1
 from-1-never zero bad h = refl
 from-1-never (suc L) bad h = rw (ne-eqb (suc L) 0 (omega arith)) (h (omega arith))
@@ -63,12 +63,12 @@ module _ {t : Settings} {routes : List Route} {m : Memory} (kept : Kept t routes
       (λ low. rw low (by-cases (loose L p) (λ bad. rw bad) (λ good. rw good (h (ltb-false 32 L low) (loose-false L p .0 good)))))
 
   pub add-by-routes : (p L hop : ℕ) → p < 2 ^ 32 → add-refusal t m p L hop ≡ add-number t routes p L hop
-  unfolding add-number
+  unfolding add-number needs-place
   add-by-routes p L hop word = add-order t m p L hop ∙ after-4 L p _ _ (λ high tight.
       rw (
         stored-exists L p high tight word,
-        from-1-same L _ _ (λ low. full-crowded (kept .slots) L p (ready (kept .range) low high)),
-        from-1-same L _ _ (λ low. passes-overflows t routes (m .counters) (kept .counters) L (ready (kept .range) low high) p),
+        place-same L _ _ _ (λ low. full-crowded (kept .slots) L p (ready (kept .range) low high)),
+        place-same L _ _ _ (λ low. passes-overflows t routes (m .counters) (kept .counters) L (ready (kept .range) low high) p),
       ))
 
   pub withdraw-by-routes : (p L : ℕ) → p < 2 ^ 32 → withdraw-refusal t m p L ≡ withdraw-number routes p L

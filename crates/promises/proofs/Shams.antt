@@ -12,14 +12,14 @@ use lib.ListN.{length, take, set}
 use borrow.Author.Tests.{eqb-true, eq-eqb, ltb-true}
 use Rattle.rules.specs.declared.Settings.{Settings}
 use Rattle.rules.specs.Tools.{any, those}
-use Rattle.rules.specs.Table.{Memory, Update, lent, left, default-word, default-mark, mark-of, slot-number, counter-places, with-slot, update, step-each, added, clear, add, withdraw, change, hits, vector-of, down-from, set-bits, search as searched, default-answer, place-answer, one-if}
+use Rattle.rules.specs.Table.{Memory, Update, lent, left, default-word, default-mark, mark-of, slot-number, counter-places, vacant, stored, from-1, full, with-slot, with-found, update, step-each, added, clear, add, withdraw, change, hits, vector-of, down-from, set-bits, search as searched, default-answer, place-answer, one-if}
 use Rattle.rules.proofs.Members.{both}
 use Rattle.promises.specs.History.{Route, Call, Clear, Add, Withdraw, Change, word-sized, all-word-sized, act, ask, Acting}
 use Rattle.promises.specs.Demands.{probes-down-to, longest}
 use Rattle.promises.specs.Programs.{Asking, Promised, Honest}
 use Rattle.promises.proofs.Matches.{answer-by, Right, right}
 use Rattle.rules.proofs.Worked.{ip, T}
-use Rattle.promises.proofs.Agree.{sevens, Z, right-number, same, right-answer, add-8, add-16, pair, four-then-one, showing}
+use Rattle.promises.proofs.Agree.{sevens, Z, right-number, same, right-answer, add-8, add-16, pair, again, four-then-one, showing}
 use Rattle.promises.proofs.Promises as promise
 
 -- The calls of the rules are not among them: they keep the promises.
@@ -150,10 +150,10 @@ pub answers-default : Honest act (λ t address m. default-answer (default-mark t
 unfolding shown
 answers-default = by-answer T act _ (add-8 ∷ []) (ip 10 2 2 3) refl
 
--- An add that writes nothing: a second one of the same prefix is accepted too.
+-- An add that writes nothing: what was added cannot be withdrawn.
 pub add-writes-nothing : Honest (with-add (λ t m p L hop. says-ok (add t m p L hop) m)) ask → ⊥
 unfolding shown
-add-writes-nothing = by-number T _ ask (add-8 ∷ []) add-8 refl
+add-writes-nothing = by-number T _ ask (add-8 ∷ []) (Withdraw (ip 10 0 0 0) 8) refl
 
 -- A withdrawal that writes nothing: a second one of the same prefix is accepted too.
 pub withdraw-writes-nothing : Honest (with-withdraw (λ t m p L. says-ok (withdraw t m p L) m)) ask → ⊥
@@ -169,7 +169,7 @@ change-writes-nothing = by-answer T _ ask (add-8 ∷ Change (ip 10 0 0 0) 8 1 �
 pub only-first-add-works :
     Honest (with-add (λ t m p L hop. let u = add t m p L hop in says-ok u (cond (any (ltb 0) (m .counters)) m (u .memory)))) ask → ⊥
 unfolding shown
-only-first-add-works = by-number T _ ask (add-8 ∷ add-16 ∷ []) add-16 refl
+only-first-add-works = by-number T _ ask (add-8 ∷ add-16 ∷ []) (Withdraw (ip 10 1 0 0) 16) refl
 
 -- Reports 1 probe regardless.
 pub one-probe : Honest act (with-probes (λ t address m. 1)) → ⊥
@@ -232,17 +232,55 @@ pub counter-sticks :
 unfolding shown
 counter-sticks = by-answer Z _ ask four-then-one 4 refl
 
+-- ---- Adds of a stored prefix that do not replace
+
+-- Refuses it, with 6.
+pub stored-refused :
+    Honest (with-add (λ t m p L hop. cond (stored t (m .slots) L p) (left 6 (m .counters) (m .slots)) (add t m p L hop))) ask → ⊥
+unfolding shown
+stored-refused = by-number T _ ask (add-8 ∷ []) add-8 refl
+
+-- Asks for a free slot first: 8/8 is refused in its full bucket.
+pub full-before-stored :
+    Honest (with-add (λ t m p L hop. cond (from-1 L (full t (m .slots) L p)) (left 8 (m .counters) (m .slots)) (add t m p L hop))) ask → ⊥
+unfolding shown
+full-before-stored = by-number T _ ask pair (Add (ip 8 0 0 0) 8 6) refl
+
+-- Says ok and leaves the old hop: 10.2.2.3 gets it.
+pub old-hop-stays :
+    Honest (with-add (λ t m p L hop. let u = add t m p L hop in says-ok u (cond (stored t (m .slots) L p) m (u .memory)))) ask → ⊥
+unfolding shown
+old-hop-stays = by-answer T _ ask again (ip 10 2 2 3) refl
+
+-- Raises the counters again: with 10/8 withdrawn they still claim it, and 10.2.2.3 takes a probe for nothing.
+pub raised-again :
+    Honest (with-add (λ t m p L hop.
+    let u = add t m p L hop in
+    with-counters u (cond (stored t (m .slots) L p) (step-each (λ n. n + 1) (m .counters) (counter-places t L p)) (u .memory .counters)))) ask → ⊥
+unfolding shown
+raised-again = by-answer T _ ask (again ++ Withdraw (ip 10 0 0 0) 8 ∷ []) (ip 10 2 2 3) refl
+
+-- Takes the first free slot: 10/8 stands twice, and after one withdrawal a second gets 10 where 7 is due.
+pub first-free-taken :
+    Honest (with-add (λ t m p L hop.
+    let u = add t m p L hop in
+    with-slots u (cond (stored t (m .slots) L p) (with-found t (m .slots) L p (vacant t (m .slots) L p) p (mark-of hop)) (u .memory .slots)))) ask → ⊥
+unfolding shown
+first-free-taken = by-number T _ ask (again ++ Withdraw (ip 10 0 0 0) 8 ∷ []) (Withdraw (ip 10 0 0 0) 8) refl
+
+-- ---- Changes, clears and lookups
+
 -- A change that gives the default the new hop too.
 pub change-moves-default :
     Honest (with-change (λ t m p L hop. let u = change t m p L hop in with-slots u (set (u .memory .slots) (default-word t) (mark-of hop)))) ask → ⊥
 unfolding shown
 change-moves-default = by-answer T _ ask (add-8 ∷ Add 0 0 3 ∷ Change (ip 10 0 0 0) 8 1 ∷ []) (ip 12 0 0 1) refl
 
--- A clear that leaves the default's mark as it was: a default is still stored.
+-- A clear that leaves the default's mark as it was: a default is still found.
 pub clear-leaves-default :
     Honest (with-clear (λ t m. let u = clear t m in with-slots u (set (u .memory .slots) (default-word t) (default-mark t (m .slots))))) ask → ⊥
 unfolding shown
-clear-leaves-default = by-number T _ ask [] (Add 0 0 3) refl
+clear-leaves-default = by-answer T _ ask [] 0 refl
 
 -- A clear that is always refused, so that no history begins.
 pub refuses-every-clear : Honest (with-clear (λ t m. left 2 (m .counters) (m .slots))) ask → ⊥

@@ -7,67 +7,26 @@ use mathlib.Core.Option.{Option, some, none}
 use native.Mathlib.Nat.{suc-ne-zero}
 use native.Mathlib.Omega.{arith}
 use lib.Dec.{eqb, ltb}
-use borrow.Author.Tests.{eqb-true, eq-eqb, ne-eqb, ltb-false, lt-ltb, le-leb, not-true, not-false}
+use borrow.Author.Tests.{eqb-true, eq-eqb, ltb-false, lt-ltb, le-leb, not-true, not-false}
 use Rattle.rules.specs.declared.Settings.{Settings}
 use Rattle.rules.specs.Tools.{count}
-use Rattle.rules.specs.Table.{prefix, positions, Memory, lent, slot-number, mark-of, default-mark, occupied, stored, held, vacant, free, is-some, full, loose, refuse, from-1, added, withdrawn, changed}
+use Rattle.rules.specs.Table.{prefix, positions, Memory, lent, slot-number, mark-of, default-mark, occupied, stored, held, vacant, free, is-some, full, added, withdrawn, changed}
 use Rattle.rules.specs.Ready.{Ready}
 use Rattle.rules.proofs.Members.{any-false}
 use Rattle.rules.proofs.Lowest.{some-lowest}
 use Rattle.rules.proofs.Marks.{mark-occupied, zero-free}
-use Rattle.rules.proofs.Refusals.{passed}
-use Rattle.rules.proofs.Updates.{added-default, added-slot, withdrawn-default, withdrawn-slot, changed-default, changed-slot}
-use Rattle.rules.proofs.Prefixes.{prefix-zero, loose-false}
+use Rattle.rules.proofs.Updates.{default-in-place, stored-in-place, new-needs-slot, added-slot, added-in-place, withdrawn-default, withdrawn-slot, changed-default, changed-slot}
+use Rattle.rules.proofs.Prefixes.{prefix-zero}
 use Rattle.promises.specs.History.{Route, about, without, with-hop}
-use Rattle.promises.specs.Demands.{number, exists, landings, crowded, overflows, add-number}
+use Rattle.promises.specs.Demands.{number, exists, landings, overflows}
 use Rattle.promises.proofs.Sums.{by-cases, none-weighs, exists-none}
-use Rattle.promises.proofs.Paper.{route, worth, Paper, about-true, route-of, paper-added, paper-withdrawn, paper-changed}
+use Rattle.promises.proofs.Paper.{route, worth, Paper, about-true, route-of, paper-added, paper-withdrawn, paper-replaced, paper-changed}
 use Rattle.promises.proofs.Slots.{weigh, weigh-free, weigh-occupied, slot-weight}
 use Rattle.promises.proofs.Buckets.{in-default, SlotsKept, held-stored, held-exists, full-crowded, default-stored, slot-step, default-step}
 use Rattle.promises.proofs.Counters.{CountersKept, lands, kept-added, kept-withdrawn, kept-unmoved, default-lands}
 use Rattle.promises.proofs.Kept.{fit, Kept, fits, ready}
+use Rattle.promises.proofs.Numbers.{Checked, Addable}
 use Rattle.promises.proofs.Refusals.{stored-exists}
-
--- ---- What an accepted call says
-
--- a length and a prefix that passed 3 and 4
-pub record Checked (p L : ℕ) : Type 0 where
-  pub high : L ≤ 32
-  pub tight : prefix L p ≡ p
-
-pub checked : (p L after : ℕ) → refuse (ltb 32 L) 3 (refuse (loose L p) 4 after) ≡ 0 → Checked p L × (after ≡ 0)
-checked p L after e =
-    let three = passed (ltb 32 L) 2 _ e in
-    let four = passed (loose L p) 3 _ (three .1) in
-    (record { high = ltb-false 32 L (three .0); tight = loose-false L p .0 (four .0) }, four .1)
-
-from-1-false : (L : ℕ) (bad : Bool) → from-1 L bad ≡ false → 1 ≤ L → bad ≡ false
-unfolding from-1
-from-1-false zero bad e low = absurd (omega arith)
-from-1-false (suc L) bad e low = rw (ne-eqb (suc L) 0 (omega arith)) at e
-
-pub record Addable (t : Settings) (routes : List Route) (p L hop : ℕ) : Type 0 where
-  pub valid : Checked p L
-  pub hop-high : hop ≤ 65535
-  pub absent : exists (about p L) routes ≡ false
-  pub vacancy : 1 ≤ L → crowded t routes L p ≡ false
-  pub room : 1 ≤ L → overflows t routes L p ≡ false
-
-pub addable : (t : Settings) (routes : List Route) (p L hop : ℕ) → add-number t routes p L hop ≡ 0 → Addable t routes p L hop
-unfolding add-number
-addable t routes p L hop e =
-    let four = checked p L _ e in
-    let five = passed (ltb 65535 hop) 4 _ (four .1) in
-    let six = passed (exists (about p L) routes) 5 _ (five .1) in
-    let eight = passed (from-1 L (crowded t routes L p)) 7 _ (six .1) in
-    let nine = passed (from-1 L (overflows t routes L p)) 8 _ (eight .1) in
-    record {
-      valid = four .0;
-      hop-high = ltb-false 65535 hop (five .0);
-      absent = six .0;
-      vacancy = from-1-false L _ (eight .0);
-      room = from-1-false L _ (nine .0);
-    }
 
 -- ---- The law
 
@@ -111,17 +70,17 @@ found none h = absurd (false≢true h)
 module _ {t : Settings} {routes : List Route} {m : Memory} (kept : Kept t routes m) (p : ℕ) (word : p < 2 ^ 32) where
   -- ---- Add
 
-  room-added : (L hop : ℕ) → Addable t routes p L hop → (M j : ℕ) → Ready t M
+  room-added : (L hop : ℕ) → Addable t routes p L hop → exists (about p L) routes ≡ false → (M j : ℕ) → Ready t M
       → landings t routes M j + worth (lands t M j) p L (some hop) ≤ 15 + worth (lands t M j) p L none
   unfolding worth overflows
-  room-added L hop ok M j of-m = by-cases (eqb L M)
+  room-added L hop ok absent M j of-m = by-cases (eqb L M)
       (λ same. rw same (go (count j (positions t M p)) refl (eqb-true L M same)))
       (λ other. rw other (omega (arith, kept .small M j of-m)))
     where
       go : (n : ℕ) → count j (positions t M p) ≡ n → L ≡ M → landings t routes M j + n ≤ 15 + 0
       go zero e same = omega (arith, kept .small M j of-m)
       go (suc n) e same =
-          let fine = rw same at (ok .room (rw same (of-m .low))) in
+          let fine = rw same at (ok .room absent (rw same (of-m .low))) in
           let below-16 : landings t routes M j + count j (positions t M p) ≤ 15 =
           ltb-false 15 _ (any-false (λ j. ltb 15 (landings t routes M j + count j (positions t M p))) (positions t M p) fine j (omega arith)) in
           omega arith
@@ -139,27 +98,32 @@ module _ {t : Settings} {routes : List Route} {m : Memory} (kept : Kept t routes
   unfolding stored
   default-stands tight = stored-exists kept 0 p (omega arith) tight word
 
-  pub added-keeps : (L hop : ℕ) → Addable t routes p L hop → Kept t (route p L hop ∷ routes) (added t m p L hop)
+  new-keeps : (L hop : ℕ) → Addable t routes p L hop → exists (about p L) routes ≡ false → Kept t (route p L hop ∷ without p L routes) (added t m p L hop)
   unfolding worth in-default full vacant free slot-weight
-  added-keeps zero hop ok = rw (added-default t m p 0 hop refl) (settled p 0 (m .counters) _ none (some hop) kept (paper-added p 0 hop routes)
+  new-keeps zero hop ok absent =
+      let paper = paper-added p 0 hop routes absent in
+      rw (added-in-place t m p 0 hop (default-in-place t (m .slots) 0 p refl), changed-default t m p 0 hop refl)
+      (settled p 0 (m .counters) _ none (some hop) kept paper
       (default-step (kept .slots) p (mark-of hop) none (some hop)
-      (λ weight. weigh-free weight 0 _ (default-stands (ok .valid .tight) ∙ ok .absent))
-      (λ weight. weigh-hop weight 0 hop (ok .hop-high)) (paper-added p 0 hop routes))
-      (kept-unmoved p 0 (kept .counters) none (some hop) (paper-added p 0 hop routes) (λ M j of-m. sym (default-lands t p M j (some hop) of-m)))
+      (λ weight. weigh-free weight 0 _ (default-stands (ok .valid .tight) ∙ absent))
+      (λ weight. weigh-hop weight 0 hop (ok .hop-high)) paper)
+      (kept-unmoved p 0 (kept .counters) none (some hop) paper (λ M j of-m. sym (default-lands t p M j (some hop) of-m)))
       (new-fits p 0 hop (ok .valid) (ok .hop-high) word)
-      (room-added 0 hop ok) (once-added 0 hop (ok .absent)))
-  added-keeps (suc L) hop ok =
+      (room-added 0 hop ok absent) (once-added 0 hop absent))
+  new-keeps (suc L) hop ok absent =
+      let paper = paper-added p (suc L) hop routes absent in
       let of-l : Ready t (suc L) = ready (kept .range) (omega arith) (ok .valid .high) in
-      let u = found (vacant t (m .slots) (suc L) p) (not-false _ (full-crowded (kept .slots) (suc L) p of-l ∙ ok .vacancy (of-l .low))) in
+      let u = found (vacant t (m .slots) (suc L) p) (not-false _ (full-crowded (kept .slots) (suc L) p of-l ∙ ok .vacancy absent (of-l .low))) in
       let low = some-lowest (free t (m .slots) (suc L) p) (t .s) (u .0) (u .1) in
-      rw (added-slot t m p (suc L) hop (suc-ne-zero L) (u .0) (u .1))
-      (settled p (suc L) _ _ none (some hop) kept (paper-added p (suc L) hop routes)
+      let needed = new-needs-slot t (m .slots) (suc L) p (suc-ne-zero L) (stored-exists kept (suc L) p (ok .valid .high) (ok .valid .tight) word ∙ absent) in
+      rw (added-slot t m p (suc L) hop needed (u .0) (u .1))
+      (settled p (suc L) _ _ none (some hop) kept paper
       (slot-step (kept .slots) (suc L) p (u .0) p (mark-of hop) none (some hop) of-l (low .within)
       (λ weight. weigh-free weight _ _ (not-true _ (low .passes)))
-      (λ weight. weigh-hop weight p hop (ok .hop-high)) (paper-added p (suc L) hop routes))
-      (kept-added p (suc L) (kept .counters) hop of-l (paper-added p (suc L) hop routes))
+      (λ weight. weigh-hop weight p hop (ok .hop-high)) paper)
+      (kept-added p (suc L) (kept .counters) hop of-l paper)
       (new-fits p (suc L) hop (ok .valid) (ok .hop-high) word)
-      (room-added (suc L) hop ok) (once-added (suc L) hop (ok .absent)))
+      (room-added (suc L) hop ok absent) (once-added (suc L) hop absent))
 
   -- ---- The stored route that a withdrawal or a change is about
 
@@ -234,25 +198,37 @@ module _ {t : Settings} {routes : List Route} {m : Memory} (kept : Kept t routes
   -- ---- Change
 
   -- another hop lands nowhere else and is about nothing else
-  other-hop : (L old hop : ℕ) (slots : List ℕ) → List·Memᴰ (route p L old) routes → Checked p L → hop ≤ 65535
-      → SlotsKept t (with-hop p L hop routes) slots → Kept t (with-hop p L hop routes) (lent (m .counters) slots)
+  other-hop : (L old hop : ℕ) {after : List Route} (slots : List ℕ) → Paper p L (some old) (some hop) routes after → Checked p L → hop ≤ 65535
+      → SlotsKept t after slots → Kept t after (lent (m .counters) slots)
   unfolding worth about
-  other-hop L old hop slots member valid high kept-slots = settled p L (m .counters) slots (some old) (some hop) kept (paper-changed p L old hop member (kept .once p L))
-      kept-slots (kept-unmoved p L (kept .counters) (some old) (some hop) (paper-changed p L old hop member (kept .once p L)) (λ M j of-m. refl)) (new-fits p L hop valid high word)
+  other-hop L old hop slots paper valid high kept-slots = settled p L (m .counters) slots (some old) (some hop) kept paper
+      kept-slots (kept-unmoved p L (kept .counters) (some old) (some hop) paper (λ M j of-m. refl)) (new-fits p L hop valid high word)
       (λ M j of-m. omega (arith, kept .small M j of-m)) (λ q M. omega (arith, kept .once q M))
 
-  pub changed-keeps : (L hop : ℕ) → Checked p L → hop ≤ 65535 → exists (about p L) routes ≡ true → Kept t (with-hop p L hop routes) (changed t m p L hop)
+  -- whatever the paper then is on which the route has the new hop
+  hop-keeps : (L hop : ℕ) (after : List Route) → Checked p L → hop ≤ 65535 → exists (about p L) routes ≡ true
+      → ((old : ℕ) → List·Memᴰ (route p L old) routes → Paper p L (some old) (some hop) routes after) → Kept t after (changed t m p L hop)
   unfolding worth in-default
-  changed-keeps zero hop valid high there =
+  hop-keeps zero hop after valid high there paper =
       let at = in-word (valid .tight) there in
       rw (changed-default t m p 0 hop refl)
-      (other-hop 0 (at .hop) hop _ (at .member) valid high
-      (default-step (kept .slots) p (mark-of hop) (some (at .hop)) (some hop) (at .weighs) (λ weight. weigh-hop weight 0 hop high) (paper-changed p 0 (at .hop) hop (at .member) (kept .once p 0))))
-  changed-keeps (suc L) hop valid high there =
+      (other-hop 0 (at .hop) hop _ (paper (at .hop) (at .member)) valid high
+      (default-step (kept .slots) p (mark-of hop) (some (at .hop)) (some hop) (at .weighs) (λ weight. weigh-hop weight 0 hop high) (paper (at .hop) (at .member))))
+  hop-keeps (suc L) hop after valid high there paper =
       let of-l : Ready t (suc L) = ready (kept .range) (omega arith) (valid .high) in
       let s = in-slot (suc L) of-l there in
       let at = s .2 in
       rw (changed-slot t m p (suc L) hop (suc-ne-zero L) (s .0) (s .1))
-      (other-hop (suc L) (at .hop) hop _ (at .member) valid high
+      (other-hop (suc L) (at .hop) hop _ (paper (at .hop) (at .member)) valid high
       (slot-step (kept .slots) (suc L) p (s .0) p (mark-of hop) (some (at .hop)) (some hop) of-l (at .within) (at .weighs) (λ weight. weigh-hop weight p hop high)
-      (paper-changed p (suc L) (at .hop) hop (at .member) (kept .once p (suc L)))))
+      (paper (at .hop) (at .member))))
+
+  pub changed-keeps : (L hop : ℕ) → Checked p L → hop ≤ 65535 → exists (about p L) routes ≡ true → Kept t (with-hop p L hop routes) (changed t m p L hop)
+  changed-keeps L hop valid high there =
+      hop-keeps L hop (with-hop p L hop routes) valid high there (λ old member. paper-changed p L old hop member (kept .once p L))
+
+  pub added-keeps : (L hop : ℕ) → Addable t routes p L hop → Kept t (route p L hop ∷ without p L routes) (added t m p L hop)
+  added-keeps L hop ok = by-cases (exists (about p L) routes)
+      (λ there. rw (added-in-place t m p L hop (stored-in-place t (m .slots) L p (stored-exists kept L p (ok .valid .high) (ok .valid .tight) word ∙ there)))
+      (hop-keeps L hop (route p L hop ∷ without p L routes) (ok .valid) (ok .hop-high) there (λ old member. paper-replaced p L old hop member (kept .once p L))))
+      (λ absent. new-keeps L hop ok absent)

@@ -65,9 +65,8 @@ conditions t (Add p L hop) m =
     memory-conditions t m
     ++ route-conditions L p
     ++ (5 when ltb 65535 hop)
-    ∷ (6 when there t (m .slots) L p)
-    ∷ (8 when ltb 0 L && no-slot-left t (m .slots) L p)
-    ∷ (9 when ltb 0 L && any (λ i. ltb 15 (getD (m .counters) i 0 + hits t L p i)) (counter-places t L p))
+    ∷ (8 when ltb 0 L && not (there t (m .slots) L p) && no-slot-left t (m .slots) L p)
+    ∷ (9 when ltb 0 L && not (there t (m .slots) L p) && any (λ i. ltb 15 (getD (m .counters) i 0 + hits t L p i)) (counter-places t L p))
     ∷ []
 conditions t (Withdraw p L) m =
     memory-conditions t m
@@ -85,7 +84,7 @@ conditions t (Change p L hop) m =
 -- the numbers that each call can give back, in that order
 unfoldable pub numbers-by : Call → List ℕ
 numbers-by Clear = 1 ∷ 2 ∷ []
-numbers-by (Add p L hop) = 1 ∷ 2 ∷ 3 ∷ 4 ∷ 5 ∷ 6 ∷ 8 ∷ 9 ∷ []
+numbers-by (Add p L hop) = 1 ∷ 2 ∷ 3 ∷ 4 ∷ 5 ∷ 8 ∷ 9 ∷ []
 numbers-by (Withdraw p L) = 1 ∷ 2 ∷ 3 ∷ 4 ∷ 7 ∷ 10 ∷ []
 numbers-by (Change p L hop) = 1 ∷ 2 ∷ 3 ∷ 4 ∷ 5 ∷ 7 ∷ []
 
@@ -173,6 +172,13 @@ pub record SaysNone (answer : Answer) : Type 0 where
   pub hop : answer .hop ≡ 0
   pub length : answer .length ≡ 0
 
+-- an answer that is another one but, it may be, for its hop
+pub record SameButHop (answer other : Answer) : Type 0 where
+  pub refusal : answer .refusal ≡ other .refusal
+  pub found : answer .found ≡ other .found
+  pub length : answer .length ≡ other .length
+  pub probes : answer .probes ≡ other .probes
+
 -- place i of a list's results, as an answer that carries no refusal: found where its first word is 1, then hop, length and probes
 unfoldable pub answer-at : (results : List ℕ) (i : ℕ) → Answer
 answer-at results i =
@@ -202,14 +208,17 @@ landings t routes L j = sum (λ r. cond (eqb (r .length) L) (count j (positions 
 unfoldable pub overflows : Settings → List Route → (L p : ℕ) → Bool
 overflows t routes L p = any (λ j. ltb 15 (landings t routes L j + count j (positions t L p))) (positions t L p)
 
+-- p needs a place: the default has one, and so has a route that is stored
+unfoldable pub needs-place : List Route → (L p : ℕ) → Bool
+needs-place routes L p = from-1 L (not (exists (about p L) routes))
+
 -- the conditions of each update in the listed order, with their numbers
 unfoldable pub add-number : Settings → List Route → (p L hop : ℕ) → ℕ
 add-number t routes p L hop =
     refuse (ltb 32 L) 3
     (refuse (loose L p) 4
     (refuse (ltb 65535 hop) 5
-    (refuse (exists (about p L) routes) 6
-    (refuse (from-1 L (crowded t routes L p)) 8 (refuse (from-1 L (overflows t routes L p)) 9 0)))))
+    (refuse (needs-place routes L p && crowded t routes L p) 8 (refuse (needs-place routes L p && overflows t routes L p) 9 0))))
 
 -- those of a withdrawal
 unfoldable pub withdraw-number : List Route → (p L : ℕ) → ℕ

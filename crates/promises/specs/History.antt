@@ -62,10 +62,11 @@ without p L (r ∷ routes) = cond (about p L r) (without p L routes) (r ∷ with
 unfoldable pub with-hop : (p L hop : ℕ) → List Route → List Route
 with-hop p L hop routes = map (λ r. cond (about p L r) (record { prefix = p; length = L; hop = hop }) r) routes
 
--- what an accepted call does to the routes on paper
+-- what an accepted call does to the routes on paper; a route that is added stands instead of any that is about its
+-- prefix and length, so that the last accepted hop is the one stored
 unfoldable pub written : Call → List Route → List Route
 written Clear routes = []
-written (Add p L hop) routes = record { prefix = p; length = L; hop = hop } ∷ routes
+written (Add p L hop) routes = record { prefix = p; length = L; hop = hop } ∷ without p L routes
 written (Withdraw p L) routes = without p L routes
 written (Change p L hop) routes = with-hop p L hop routes
 

@@ -4,12 +4,13 @@
 use Prim.Native.Nat.{ℕ, _^_, _≤_, _<_}
 use mathlib.Core.Path.{_≡_, refl, sym, ap, _∙_}
 use mathlib.Core.Bool.{true}
-use mathlib.Core.List.{List, []}
+use mathlib.Core.List.{List, [], _∷_}
 use mathlib.Core.Option.{Option, some, none}
 use mathlib.Core.Logic.{_↔_}
 use lib.ListN.{length, replicate}
 use lib.Dec.{lit≤}
 use Rattle.rules.specs.declared.Settings.{Settings}
+use Rattle.rules.specs.declared.Answer.{Answer}
 use Rattle.rules.specs.Tools.{within}
 use Rattle.rules.specs.Table.{in-range, Memory, lent, counters-size, slots-size, sized, refuse, memory-refusal, update, zeroed, clear, lookup}
 use Rattle.rules.proofs.Worked.{T}
@@ -19,21 +20,27 @@ use Rattle.requests.specs.declared.Request.the-variants.{Add, Drop, Move, Find,
 use Rattle.requests.specs.Shapes.{request}
 use Rattle.requests.proofs.Words.{request-words}
 use Rattle.answers.specs.Texts.{outcome, hit, miss, found, unreadable}
-use Rattle.lines.specs.Lines.{reply, answer, lines, answers, going, written, joined}
+use Rattle.lines.specs.Lines.{updated, reply, answer, lines, answers, going, written, joined}
 use Rattle.lines.proofs.Cuts.{begins, one-by-one}
-use Rattle.promises.specs.History.{Route, Call, State, act, history, history-by}
-use Rattle.promises.specs.Demands.{Stored, matches, Longest, NoMatch, number-given, probes-down-to, longest}
+use Rattle.promises.specs.History.{Route, Call, Add as Call·Add, State, act, without, written as put-down, history, history-by}
+use Rattle.promises.specs.Demands.{Stored, matches, Longest, NoMatch, Finds, number-given, probes-down-to, longest}
 use Rattle.promises.proofs.Kept.{Kept}
 use Rattle.promises.proofs.Histories.{kept-clear}
 use Rattle.promises.proofs.Matches.{answer-by, Right, right}
 use Rattle.promises.proofs.Lookups.{lookup-finds, lookup-none}
 use Rattle.promises.proofs.Answers.{default-longest}
+use Rattle.promises.proofs.Replaced.{again-number, again-finds, again-lookup}
 use Rattle.text_promises.specs.Paper.{update-of, done, noted-line, text-by, paper-answers, after-line, after-lines, updates}
 use Rattle.text_promises.specs.Streams.{Streamed}
 use Rattle.text_promises.proofs.Texts.{no-miss, only-unreadable, hit-tells, miss-tells, outcome-tells}
 use Rattle.text_promises.proofs.Line.{text-on-paper}
 use Rattle.text_promises.proofs.Histories.{lines-history, kept-lines, answers-on-paper}
 use Rattle.text_promises.proofs.Streams.{all-streamed}
+
+-- an answer that finds a route is written as its hop, its length and the probes
+hit-found : {r : Route} {probes : ℕ} (a : Answer) → Finds a r → a .probes ≡ probes → found a ≡ hit (r .hop) (r .length) probes
+unfolding found
+hit-found a its counted = rw (its .refusal, its .found, its .hop, its .length, counted)
 
 module _ (t : Settings) (before : Memory) (cleared : clear t before .refusal ≡ 0) where
   -- the table as it was cleared, with nothing stored
@@ -95,6 +102,30 @@ module _ (t : Settings) (before : Memory) (cleared : clear t before .refusal ≡
     accepted-exactly call asks =
         let told = numbers-written call asks in
         (λ ok. sym (outcome-tells 0 (number-given t routes call) (sym ok ∙ told)), λ none. told ∙ ap outcome none)
+
+    -- So an add of a stored route, with a hop that is valid, is answered ok,
+    pub replacing-written : (r : Route) → Stored r routes → (hop : ℕ) → hop ≤ 65535 → request line ≡ Add (r .prefix) (r .length) hop
+        → answer t m line .text ≡ spelled "ok\n"
+    unfolding update-of
+    replacing-written r stored hop high asks =
+        accepted-exactly (Call·Add (r .prefix) (r .length) hop) (ap update-of asks) .1 (again-number kept r stored hop high)
+
+    -- and the paper has its new hop, and the old one no more.
+    pub replacing-noted : (r : Route) → Stored r routes → (hop : ℕ) → hop ≤ 65535 → request line ≡ Add (r .prefix) (r .length) hop
+        → after-line t (after-lines t start earlier) line .routes ≡ record { prefix = r .prefix; length = r .length; hop = hop } ∷ without (r .prefix) (r .length) routes
+    unfolding after-line noted-line update-of done put-down
+    replacing-noted r stored hop high asks = rw (replacing-written r stored hop high asks, asks)
+
+    -- A find of an address of which the route is the longest match is then answered the new hop, and the probes as before.
+    pub replacing-found : (r : Route) → Stored r routes → (hop : ℕ) → hop ≤ 65535 → request line ≡ Add (r .prefix) (r .length) hop
+        → (next : List ℕ) (address : ℕ) → request next ≡ Find address → Longest address routes r
+        → answer t (answer t m line .memory) next .text ≡ hit hop (r .length) (probes-down-to t routes address (r .length))
+    unfolding answer reply updated act answer-by
+    replacing-found r stored hop high asks next address finds best =
+        let word : address < 2 ^ 32 = rw finds at (request-words next) in
+        let its = again-finds kept r stored hop high address word best in
+        let same = again-lookup kept r stored hop high address word in
+        rw (asks, finds) (hit-found _ its (same .probes ∙ ap (λ a. a .probes) (lookup-finds kept address word r best)))
 
     -- The number in its answer is that number and no other.
     pub number-exactly : (call : Call) → update-of (request line) ≡ some call → (n : ℕ) → answer t m line .text ≡ outcome n → n ≡ number-given t routes call

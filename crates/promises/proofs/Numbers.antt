@@ -1,0 +1,125 @@
+-- The numbers by the stored routes, as laws: what an accepted update has passed, that an add which has passed it is accepted,
+-- and numbers that are not given.
+use Prim.Native.Nat.{ℕ, zero, suc, _≤_}
+use mathlib.Core.Path.{_≡_, refl}
+use mathlib.Core.Bool.{Bool, true, false, not, _&&_}
+use mathlib.Core.List.{List}
+use mathlib.Core.Logic.{_≢_}
+use native.Mathlib.Omega.{arith}
+use lib.Dec.{ltb, lit≤}
+use borrow.Author.Tests.{ne-eqb, ltb-false, le-ltb, not-false}
+use Rattle.rules.specs.declared.Settings.{Settings}
+use Rattle.rules.specs.Table.{prefix, loose, refuse, from-1}
+use Rattle.rules.proofs.Prefixes.{loose-false}
+use Rattle.rules.proofs.Refusals.{passed}
+use Rattle.promises.specs.History.{Route, Call, Clear, Add, Withdraw, Change, about}
+use Rattle.promises.specs.Demands.{exists, crowded, overflows, needs-place, add-number, withdraw-number, change-number, number-given}
+use Rattle.promises.proofs.Sums.{by-cases}
+
+-- ---- What an accepted update has passed
+
+-- a length and a prefix that passed 3 and 4
+pub record Checked (p L : ℕ) : Type 0 where
+  pub high : L ≤ 32
+  pub tight : prefix L p ≡ p
+
+checked : (p L after : ℕ) → refuse (ltb 32 L) 3 (refuse (loose L p) 4 after) ≡ 0 → Checked p L × (after ≡ 0)
+checked p L after e =
+    let three = passed (ltb 32 L) 2 _ e in
+    let four = passed (loose L p) 3 _ (three .1) in
+    (record { high = ltb-false 32 L (three .0); tight = loose-false L p .0 (four .0) }, four .1)
+
+-- an accepted add: only a route that is not stored yet asks for room
+pub record Addable (t : Settings) (routes : List Route) (p L hop : ℕ) : Type 0 where
+  pub valid : Checked p L
+  pub hop-high : hop ≤ 65535
+  pub vacancy : exists (about p L) routes ≡ false → 1 ≤ L → crowded t routes L p ≡ false
+  pub room : exists (about p L) routes ≡ false → 1 ≤ L → overflows t routes L p ≡ false
+
+module _ (routes : List Route) (L p : ℕ) (bad : Bool) where
+  -- what does not stop an add does not hold of a route that needs a place,
+  unstopped : needs-place routes L p && bad ≡ false → exists (about p L) routes ≡ false → 1 ≤ L → bad ≡ false
+  unfolding needs-place from-1
+  unstopped e absent low = rw (ne-eqb L 0 (omega arith), absent) at e
+
+  -- and the other way
+  never-stops : (exists (about p L) routes ≡ false → 1 ≤ L → bad ≡ false) → needs-place routes L p && bad ≡ false
+  unfolding needs-place from-1
+  never-stops h = go L h
+    where
+      go : (M : ℕ) → (exists (about p L) routes ≡ false → 1 ≤ M → bad ≡ false) → from-1 M (not (exists (about p L) routes)) && bad ≡ false
+      go zero never = refl
+      go (suc M) never = rw (ne-eqb (suc M) 0 (omega arith)) (by-cases (exists (about p L) routes) (λ stands. rw stands) (λ absent. rw absent (never absent (omega arith))))
+
+pub addable : (t : Settings) (routes : List Route) (p L hop : ℕ) → add-number t routes p L hop ≡ 0 → Addable t routes p L hop
+unfolding add-number
+addable t routes p L hop e =
+    let four = checked p L _ e in
+    let five = passed (ltb 65535 hop) 4 _ (four .1) in
+    let eight = passed (needs-place routes L p && crowded t routes L p) 7 _ (five .1) in
+    let nine = passed (needs-place routes L p && overflows t routes L p) 8 _ (eight .1) in
+    record {
+      valid = four .0;
+      hop-high = ltb-false 65535 hop (five .0);
+      vacancy = unstopped routes L p _ (eight .0);
+      room = unstopped routes L p _ (nine .0);
+    }
+
+-- an add that has passed all this is accepted
+pub add-accepted : {t : Settings} {routes : List Route} {p L hop : ℕ} → Addable t routes p L hop → add-number t routes p L hop ≡ 0
+unfolding add-number refuse
+add-accepted {t} {routes} {p} {L} {hop} ok =
+    rw (
+      le-ltb 32 L (ok .valid .high),
+      loose-false L p .1 (ok .valid .tight),
+      le-ltb 65535 hop (ok .hop-high),
+      never-stops routes L p (crowded t routes L p) (ok .vacancy),
+      never-stops routes L p (overflows t routes L p) (ok .room),
+    )
+
+-- an accepted withdrawal is of a stored route
+pub withdrawable : (routes : List Route) (p L : ℕ) → withdraw-number routes p L ≡ 0 → Checked p L × (exists (about p L) routes ≡ true)
+unfolding withdraw-number
+withdrawable routes p L e =
+    let four = checked p L _ e in
+    (four .0, not-false _ (passed (not (exists (about p L) routes)) 6 0 (four .1) .0))
+
+-- and so is an accepted change, with a hop that is valid
+pub changeable : (routes : List Route) (p L hop : ℕ) → change-number routes p L hop ≡ 0 → Checked p L × (hop ≤ 65535) × (exists (about p L) routes ≡ true)
+unfolding change-number
+changeable routes p L hop e =
+    let four = checked p L _ e in
+    let five = passed (ltb 65535 hop) 4 _ (four .1) in
+    (four .0, ltb-false 65535 hop (five .0), not-false _ (passed (not (exists (about p L) routes)) 6 0 (five .1) .0))
+
+-- ---- Numbers that are not given
+
+-- a number that neither a check nor what comes after it gives is not given
+not-this : (k : ℕ) (bad : Bool) (number after : ℕ) → number ≢ k → after ≢ k → refuse bad number after ≢ k
+unfolding refuse
+not-this k true number after here later = here
+not-this k false number after here later = later
+
+not-before-5 : (k p L after : ℕ) → 5 ≤ k → after ≢ k → refuse (ltb 32 L) 3 (refuse (loose L p) 4 after) ≢ k
+not-before-5 k p L after high later = not-this k (ltb 32 L) 3 _ (omega arith) (not-this k (loose L p) 4 after (omega arith) later)
+
+pub number-not-10 : (t : Settings) (routes : List Route) (call : Call) → number-given t routes call ≢ 10
+unfolding number-given add-number withdraw-number change-number
+number-not-10 t routes Clear = omega arith
+number-not-10 t routes (Add p L hop) =
+    not-before-5 10 p L _ (lit≤ tt)
+    (not-this 10 (ltb 65535 hop) 5 _ (omega arith)
+    (not-this 10 (needs-place routes L p && crowded t routes L p) 8 _ (omega arith)
+    (not-this 10 (needs-place routes L p && overflows t routes L p) 9 0 (omega arith) (omega arith))))
+number-not-10 t routes (Withdraw p L) = not-before-5 10 p L _ (lit≤ tt) (not-this 10 (not (exists (about p L) routes)) 7 0 (omega arith) (omega arith))
+number-not-10 t routes (Change p L hop) =
+    not-before-5 10 p L _ (lit≤ tt) (not-this 10 (ltb 65535 hop) 5 _ (omega arith) (not-this 10 (not (exists (about p L) routes)) 7 0 (omega arith) (omega arith)))
+
+-- 8 is not given where the bucket has room
+pub add-not-8 : (t : Settings) (routes : List Route) (p L hop : ℕ) → (1 ≤ L → crowded t routes L p ≡ false) → add-number t routes p L hop ≢ 8
+unfolding add-number refuse
+add-not-8 t routes p L hop empty =
+    not-before-5 8 p L _ (lit≤ tt)
+    (not-this 8 (ltb 65535 hop) 5 _ (omega arith)
+    (rw (never-stops routes L p (crowded t routes L p) (λ absent. empty))
+    (not-this 8 (needs-place routes L p && overflows t routes L p) 9 0 (omega arith) (omega arith))))

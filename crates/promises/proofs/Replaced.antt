@@ -1,0 +1,186 @@
+-- A stored route added again with another hop moves no other figure: lengths, probes and vectors ask for prefixes and
+-- lengths alone.
+use Prim.Native.Nat.{ℕ, _^_, _≤_, _<_}
+use mathlib.Core.Path.{_≡_, refl, sym, ap, _∙_}
+use mathlib.Core.Bool.{Bool, true, false, cond, _&&_, true≢false}
+use mathlib.Core.List.{List, [], _∷_, List·Memᴰ·head, List·Memᴰ·tail, List·Memᴰ·not-nil, List·Memᴰ·cases-cons}
+use mathlib.Core.Option.{Option, some, none}
+use mathlib.Core.Logic.{_⊎_, inl, inr, _≢_}
+use lib.Dec.{eqb, leb, ltb}
+use lib.ListN.{length}
+use Rattle.rules.specs.declared.Settings.{Settings}
+use Rattle.rules.specs.Tools.{all, any, those}
+use Rattle.rules.specs.Table.{prefix, positions, Memory, stored, lookup, match-vector, bits-where, down-from}
+use Rattle.rules.proofs.Updates.{add-is-change}
+use Rattle.promises.specs.History.{Route, Add, Change, act, about, with-hop, word-sized, written, noted, next-by}
+use Rattle.promises.specs.Demands.{Stored, exists, matches, Longest, longer, longest, Finds, SameButHop, number-given, marks, covered, probes-down-to}
+use Rattle.promises.proofs.Sums.{by-cases, exists-there}
+use Rattle.promises.proofs.Paper.{route, own-about, about-true}
+use Rattle.promises.proofs.Kept.{Kept, Fit, fits}
+use Rattle.promises.proofs.Refusals.{stored-exists, number-by-routes}
+use Rattle.promises.proofs.Numbers.{add-accepted}
+use Rattle.promises.proofs.Histories.{kept-next}
+use Rattle.promises.proofs.Anew.{sized}
+use Rattle.promises.proofs.Matches.{answer-by, vector-by, Right, right}
+use Rattle.promises.proofs.Lookups.{lookup-by-routes, vector-by-routes}
+use Rattle.promises.proofs.Answers.{finds}
+
+-- ---- What a new hop changes on paper
+
+module _ (p L hop : ℕ) where
+  -- a route with the new hop, if it is the one about p and L
+  abbrev new-hop : Route → Route
+  new-hop r = cond (about p L r) (route p L hop) r
+
+  same-prefix : (r : Route) → new-hop r .prefix ≡ r .prefix
+  same-prefix r = by-cases (about p L r) (λ its. rw its (sym (about-true p L r its .0))) (λ other. rw other)
+
+  same-length : (r : Route) → new-hop r .length ≡ r .length
+  same-length r = by-cases (about p L r) (λ its. rw its (sym (about-true p L r its .1))) (λ other. rw other)
+
+  -- a test of prefix and length passes as before
+  exists-as-before : (test : Route → Bool) → ((r : Route) → test (new-hop r) ≡ test r) → (routes : List Route)
+      → exists test (with-hop p L hop routes) ≡ exists test routes
+  unfolding exists with-hop
+  exists-as-before test same [] = refl
+  exists-as-before test same (r ∷ routes) = rw (same r, exists-as-before test same routes)
+
+  covered-as-before : (t : Settings) (routes : List Route) (address M : ℕ) → covered t (with-hop p L hop routes) address M ≡ covered t routes address M
+  unfolding covered marks
+  covered-as-before t routes address M =
+      ap (λ (test : ℕ → Bool). all test (positions t M (prefix M address)))
+      (λ i j. exists-as-before (λ r. eqb (r .length) M && any (eqb j) (positions t M (r .prefix))) (λ r. rw (same-length r, same-prefix r)) routes i)
+
+  probes-as-before : (t : Settings) (routes : List Route) (address M : ℕ) → probes-down-to t (with-hop p L hop routes) address M ≡ probes-down-to t routes address M
+  unfolding probes-down-to
+  probes-as-before t routes address M = λ i. length (those (λ n. leb M n && covered-as-before t routes address n i) (down-from 32))
+
+  -- the longest match, with the new hop
+  abbrev renewed : Option Route → Option Route
+  renewed (some r) = some (new-hop r)
+  renewed none = none
+
+  longer-as-before : (r : Route) (o : Option Route) → longer (new-hop r) (renewed o) ≡ renewed (longer r o)
+  unfolding longer
+  longer-as-before r none = refl
+  longer-as-before r (some q) = rw (same-length q, same-length r) (go (ltb (q .length) (r .length)))
+    where
+      go : (b : Bool) → cond b (some (new-hop r)) (some (new-hop q)) ≡ renewed (cond b (some r) (some q))
+      go true = refl
+      go false = refl
+
+  longest-as-before : (address : ℕ) (routes : List Route) → longest address (with-hop p L hop routes) ≡ renewed (longest address routes)
+  unfolding longest with-hop matches
+  longest-as-before address [] = refl
+  longest-as-before address (r ∷ routes) =
+      rw (longest-as-before address routes, same-length r, same-prefix r, longer-as-before r (longest address routes)) (go (eqb (prefix (r .length) address) (r .prefix)))
+    where
+      go : (b : Bool) → cond b (renewed (longer r (longest address routes))) (renewed (longest address routes)) ≡ renewed (cond b (longer r (longest address routes)) (longest address routes))
+      go true = refl
+      go false = refl
+
+  answer-as-before : (t : Settings) (routes : List Route) (address : ℕ) (o : Option Route)
+      → SameButHop (answer-by t (with-hop p L hop routes) address (renewed o)) (answer-by t routes address o)
+  unfolding answer-by
+  answer-as-before t routes address none = record { refusal = refl; found = refl; length = refl; probes = probes-as-before t routes address 0 }
+  answer-as-before t routes address (some r) =
+      record { refusal = refl; found = refl; length = same-length r; probes = rw (same-length r) (probes-as-before t routes address (r .length)) }
+
+  -- routes with the new hop are those that were there, each with the new hop if it is its own
+  renewed-there : (q : Route) (routes : List Route) → Stored q routes → Stored (new-hop q) (with-hop p L hop routes)
+  unfolding with-hop
+  renewed-there q (r ∷ routes) (List·Memᴰ·head e) = List·Memᴰ·head (ap new-hop e)
+  renewed-there q (r ∷ routes) (List·Memᴰ·tail m) = List·Memᴰ·tail (renewed-there q routes m)
+
+  there-before : (q : Route) (routes : List Route) → Stored q (with-hop p L hop routes) → (r : Route) × Stored r routes × (q ≡ new-hop r)
+  unfolding with-hop
+  there-before q [] m = absurd (List·Memᴰ·not-nil m)
+  there-before q (r ∷ routes) m = go (List·Memᴰ·cases-cons m) (there-before q routes)
+    where
+      go : (q ≡ new-hop r) ⊎ Stored q (with-hop p L hop routes) → (Stored q (with-hop p L hop routes) → (o : Route) × Stored o routes × (q ≡ new-hop o))
+          → (o : Route) × Stored o (r ∷ routes) × (q ≡ new-hop o)
+      go (inl e) rest = (r, List·Memᴰ·head refl, e)
+      go (inr m) rest = let o = rest m in (o .0, List·Memᴰ·tail (o .1), o .2)
+
+  longest-renewed : (address : ℕ) (routes : List Route) (r : Route) → Longest address routes r → Longest address (with-hop p L hop routes) (new-hop r)
+  unfolding matches
+  longest-renewed address routes r best = record {
+    stored = renewed-there r routes (best .stored);
+    matching = rw (same-length r, same-prefix r) (best .matching);
+    longest = λ q m matching.
+        let o = there-before q routes m in
+        rw (same-length r, o .2, same-length (o .0)) (best .longest (o .0) (o .1) (rw (o .2, same-length (o .0), same-prefix (o .0)) at matching));
+  }
+
+-- ---- A stored route added again
+
+module _ {t : Settings} {routes : List Route} {m : Memory} (kept : Kept t routes m) (r : Route) (stands : Stored r routes) (hop : ℕ) (high : hop ≤ 65535) where
+  its : Fit r
+  its = fits kept r stands
+
+  listed : exists (about (r .prefix) (r .length)) routes ≡ true
+  listed = exists-there (about (r .prefix) (r .length)) stands (own-about (r .prefix) (r .length) (r .hop))
+
+  word-in : word-sized (Add (r .prefix) (r .length) hop) ≡ true
+  word-in = sized (route (r .prefix) (r .length) hop) (its .word)
+
+  -- the table after it
+  abbrev then : Memory
+  then = act t (Add (r .prefix) (r .length) hop) m .memory
+
+  pub again-number : number-given t routes (Add (r .prefix) (r .length) hop) ≡ 0
+  unfolding number-given
+  again-number = add-accepted (record {
+    valid = record { high = its .high; tight = its .tight };
+    hop-high = high;
+    vacancy = λ absent low. absurd (true≢false (sym listed ∙ absent));
+    room = λ absent low. absurd (true≢false (sym listed ∙ absent));
+  })
+
+  pub again-accepted : act t (Add (r .prefix) (r .length) hop) m .refusal ≡ 0
+  again-accepted = number-by-routes kept (Add (r .prefix) (r .length) hop) word-in ∙ again-number
+
+  changes : act t (Add (r .prefix) (r .length) hop) m ≡ act t (Change (r .prefix) (r .length) hop) m
+  unfolding act
+  changes = add-is-change t m (r .prefix) (r .length) hop (stored-exists kept (r .length) (r .prefix) (its .high) (its .tight) (its .word) ∙ listed)
+
+  kept-again : Kept t (with-hop (r .prefix) (r .length) hop routes) then
+  unfolding next-by noted written word-sized
+  kept-again = rw (ap (λ u. u .memory) changes)
+      (rw (sym (ap (λ u. u .refusal) changes) ∙ again-accepted) at (kept-next {s = record { memory = m; routes = routes }} kept (Change (r .prefix) (r .length) hop) word-in))
+
+  -- a route about the same prefix and length is as long, and matches as well
+  same-longest : {address : ℕ} (q : Route) → about (r .prefix) (r .length) q ≡ true → Longest address routes q → Longest address routes r
+  unfolding matches
+  same-longest q own best =
+      let its = about-true (r .prefix) (r .length) q own in
+      record { stored = stands; matching = rw (← its .0, ← its .1) (best .matching); longest = rw (← its .1) (best .longest) }
+
+  module _ (address : ℕ) (word : address < 2 ^ 32) where
+    pub again-lookup : SameButHop (lookup t then address) (lookup t m address)
+    again-lookup = rw (lookup-by-routes kept-again address word, lookup-by-routes kept address word, longest-as-before (r .prefix) (r .length) hop address routes)
+        (answer-as-before (r .prefix) (r .length) hop t routes address (longest address routes))
+
+    pub again-vector : match-vector t then address ≡ match-vector t m address
+    unfolding vector-by
+    again-vector = vector-by-routes kept-again address word
+        ∙ ap (λ (covers : ℕ → Bool). record { refusal = 0; vector = bits-where covers 32 }) (λ i M. covered-as-before (r .prefix) (r .length) hop t routes address M i)
+        ∙ sym (vector-by-routes kept address word)
+
+    -- the route about its own prefix and length has the new hop
+    pub again-finds : Longest address routes r → Finds (lookup t then address) (route (r .prefix) (r .length) hop)
+    again-finds best = finds kept-again address word (route (r .prefix) (r .length) hop)
+        (rw (own-about (r .prefix) (r .length) (r .hop)) at (longest-renewed (r .prefix) (r .length) hop address routes r best))
+
+    -- where another route answers, or none, nothing changes
+    pub again-others : (Longest address routes r → ⊥) → lookup t then address ≡ lookup t m address
+    unfolding answer-by
+    again-others other = rw (lookup-by-routes kept-again address word, lookup-by-routes kept address word, longest-as-before (r .prefix) (r .length) hop address routes)
+        (go (longest address routes) (right address routes))
+      where
+        go : (o : Option Route) → Right address routes o
+            → answer-by t (with-hop (r .prefix) (r .length) hop routes) address (renewed (r .prefix) (r .length) hop o) ≡ answer-by t routes address o
+        go none no-match = rw (probes-as-before (r .prefix) (r .length) hop t routes address 0)
+        go (some q) best = by-cases (about (r .prefix) (r .length) q)
+            (λ own. absurd (other (same-longest q own best)))
+            (λ apart. rw (apart, probes-as-before (r .prefix) (r .length) hop t routes address (q .length)))
