@@ -18,7 +18,7 @@
 #
 # Needed are the kit's command rt on the PATH (but for make settings and make clean), gcc for all that
 # is C, rustc for second, soak, bench and test, g++ and python3 for test. The first make run or make lib
-# takes two minutes, make test twelve.
+# takes two minutes, make test fourteen.
 .DEFAULT_GOAL = help
 .PHONY: help test run lib examples install uninstall settings second soak edits bench clean
 

@@ -1,8 +1,8 @@
 /*
  * Measures the proved calls beside calls written by hand in C: lookups of the same million addresses,
- * and withdrawals and adds of the same routes, on the same tables, in turns within one run; and the
- * lookup of a list beside as many single ones. Every answer of the two is compared, and after updates
- * every byte. Settings are arguments to both, so neither compiler knows them.
+ * withdrawals and adds of the same routes, and adds that replace a route, on the same tables, in turns
+ * within one run; and the lookup of a list beside as many single ones. Every answer of the two is
+ * compared, and after updates every byte. Settings are arguments to both, so neither compiler knows them.
  */
 #define _POSIX_C_SOURCE 199309L
 
@@ -16,7 +16,7 @@
 #include <string.h>
 #include <time.h>
 
-enum { ADDRESSES = 1000000, PAIRS = 100000, ROUNDS = 9, MOST_ROUTES = 6000, SHORT_LIST = 64, LONG_LIST = 1000 };
+enum { ADDRESSES = 1000000, TURNS = 100000, ROUNDS = 9, MOST_ROUTES = 6000, SHORT_LIST = 64, LONG_LIST = 1000 };
 
 struct route {
     uint32_t prefix, length, hop;
@@ -48,7 +48,7 @@ static const uint32_t share[33] = {
 };
 
 static struct route routes[MOST_ROUTES], stored[MOST_ROUTES];
-static uint32_t addresses[ADDRESSES], turns[PAIRS];
+static uint32_t addresses[ADDRESSES], turns[TURNS];
 static uint64_t by_hand[ADDRESSES], in_turn[ADDRESSES], proved[ADDRESSES];
 static struct gateway_result listed[ADDRESSES];
 
@@ -141,12 +141,23 @@ static void keep_best(double *best, double start, double calls)
 #define MEASURE_UPDATES(best, m, answers, withdraw, add)                                           \
     do {                                                                                           \
         double start = now();                                                                      \
-        for (size_t i = 0; i < PAIRS; i++) {                                                       \
+        for (size_t i = 0; i < TURNS; i++) {                                                       \
             const struct route *r = &stored[turns[i]];                                             \
             (answers)[2 * i] = withdraw(LENT(m), r->prefix, r->length);                            \
             (answers)[2 * i + 1] = add(LENT(m), r->prefix, r->length, r->hop);                     \
         }                                                                                          \
-        keep_best(&(best), start, 2 * PAIRS);                                                      \
+        keep_best(&(best), start, 2 * TURNS);                                                      \
+    } while (0)
+
+/* Each route is added with another hop than it has: hops run on from add to add. */
+#define MEASURE_REPLACING(best, m, answers, add)                                                   \
+    do {                                                                                           \
+        double start = now();                                                                      \
+        for (uint32_t i = 0; i < TURNS; i++) {                                                     \
+            const struct route *r = &stored[turns[i]];                                             \
+            (answers)[i] = add(LENT(m), r->prefix, r->length, (r->hop + 1 + i) % 65536);           \
+        }                                                                                          \
+        keep_best(&(best), start, TURNS);                                                          \
     } while (0)
 
 struct memory {
@@ -183,8 +194,8 @@ static uint32_t same(uint64_t hand, uint64_t gateway)
 /* A call of both tables that writes, and the number it gives. */
 #define UPDATE(call, ...) same(hand_##call(LENT(hand), __VA_ARGS__), gateway_##call(LENT(gateway), __VA_ARGS__))
 
-/* Fills both tables; some routes are withdrawn, added again and changed, as in a table that has been
-   used. Answers how many are then stored. */
+/* Fills both tables; some routes are withdrawn and added again, the others replaced, and all are changed, as
+   in a table that has been used. Answers how many are then stored. */
 static uint32_t fill(const struct table *t, const struct memory *hand, const struct memory *gateway)
 {
     make_routes(t->routes);
@@ -238,22 +249,34 @@ static void measure_lookups(const struct table *t)
     take_back(&gateway);
 }
 
+/* The answers of both tables to so many updates, and what these leave. */
+static void check_updates(size_t many, const struct memory *hand, const struct memory *gateway)
+{
+    check(memcmp(by_hand, proved, many * sizeof proved[0]) == 0, "an update");
+    check_memory(hand, gateway);
+}
+
 static void measure_updates(const struct table *t)
 {
     struct memory hand = lend_table(t), gateway = lend_table(t);
     uint32_t many = fill(t, &hand, &gateway);
-    for (size_t i = 0; i < PAIRS; i++)
+    for (size_t i = 0; i < TURNS; i++)
         turns[i] = random_below(many);
 
-    double hand_ns = 0, proved_ns = 0;
+    double hand_ns = 0, proved_ns = 0, hand_replacing_ns = 0, proved_replacing_ns = 0;
     for (int round = 0; round < ROUNDS; round++) {
         MEASURE_UPDATES(hand_ns, &hand, by_hand, hand_withdraw, hand_add);
         MEASURE_UPDATES(proved_ns, &gateway, proved, gateway_withdraw, gateway_add);
-        check(memcmp(by_hand, proved, 2 * PAIRS * sizeof proved[0]) == 0, "an update");
-        check_memory(&hand, &gateway);
+        check_updates(2 * TURNS, &hand, &gateway);
+        MEASURE_REPLACING(hand_replacing_ns, &hand, by_hand, hand_add);
+        MEASURE_REPLACING(proved_replacing_ns, &gateway, proved, gateway_add);
+        check_updates(TURNS, &hand, &gateway);
+        for (size_t i = 0; i < TURNS; i++)
+            check(proved[i] == GATEWAY_OK, "an add that replaces");
     }
     print_table(t, many);
-    printf("  %7.1f  %9.1f  %5.2f\n", hand_ns, proved_ns, proved_ns / hand_ns);
+    printf("  %7.1f  %9.1f  %5.2f  %7.1f  %9.1f  %5.2f\n", hand_ns, proved_ns, proved_ns / hand_ns,
+           hand_replacing_ns, proved_replacing_ns, proved_replacing_ns / hand_replacing_ns);
     fflush(stdout);
     take_back(&hand);
     take_back(&gateway);
@@ -303,9 +326,11 @@ int main(void)
     printf("offered  stored  K  D E S  probes  default  hand ns  proved ns  ratio  in turn  ratio\n");
     for (size_t i = 0; i < sizeof tables / sizeof tables[0]; i++)
         measure_lookups(&tables[i]);
-    printf("\nnanoseconds to an update, best of %d rounds: %d times a stored route is withdrawn and added again\n\n",
-           ROUNDS, PAIRS);
-    printf("offered  stored  K  D E S  hand ns  proved ns  ratio\n");
+    printf("\nnanoseconds to an update, best of %d rounds: %d times a stored route is withdrawn and added again;\n",
+           ROUNDS, TURNS);
+    printf("then as often one is replaced: added with another hop\n\n");
+    printf("                           withdrawn, added again     replaced\n");
+    printf("offered  stored  K  D E S  hand ns  proved ns  ratio  hand ns  proved ns  ratio\n");
     for (size_t i = 0; i < sizeof updated / sizeof updated[0]; i++)
         measure_updates(&updated[i]);
     printf("\nnanoseconds to an address, best of %d rounds over %d addresses\n", ROUNDS, ADDRESSES);

@@ -28,7 +28,7 @@ struct row {
     uint32_t prefixes[MOST_BUCKETS][MOST_SLOTS];
 };
 
-enum { ACCEPTED = 0, STORED = 6, BUCKET_FULL = 8, COUNTER_FULL = 9 };
+enum { ACCEPTED = 0, BUCKET_FULL = 8, COUNTER_FULL = 9 };
 
 /* The multipliers that gateway.h offers. */
 #define GOOD 0xc2b2ae3d, 0x85ebca77, 0x9e3779b1
@@ -83,11 +83,10 @@ static int move_counters(const struct settings *t, struct row *row, uint32_t pre
     return within;
 }
 
+/* Adds a prefix that is not stored. */
 static uint32_t add(const struct settings *t, struct row *row, uint32_t prefix)
 {
     uint32_t bucket = bucket_of(t, prefix);
-    if (holds(t, row, prefix))
-        return STORED;
     if (row->occupied[bucket] == t->s)
         return BUCKET_FULL;
     if (!move_counters(t, row, prefix, 1)) {
@@ -100,14 +99,14 @@ static uint32_t add(const struct settings *t, struct row *row, uint32_t prefix)
 
 /* ---- random tables */
 
-/* Adds a random prefix that is not stored yet. */
+/* Adds a random prefix that is not stored. */
 static uint32_t add_random(const struct settings *t, struct row *row)
 {
-    uint32_t refusal;
+    uint32_t prefix;
     do
-        refusal = add(t, row, prefix_of(random_word(), row->length));
-    while (refusal == STORED);
-    return refusal;
+        prefix = prefix_of(random_word(), row->length);
+    while (holds(t, row, prefix));
+    return add(t, row, prefix);
 }
 
 /* How many random routes a cleared length takes, up to most, before it refuses one. */

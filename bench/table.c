@@ -71,14 +71,14 @@ static struct found search(const struct settings *t, const uint32_t *slots, uint
 {
     size_t first = first_slot(t, length, p), end = first + t->s;
     struct found found = {end, end, end};
-    for (size_t n = first; n < end; n++)
-        if (!occupied(slots[2 * n + 1])) {
-            if (found.vacant == end)
-                found.vacant = n;
-        } else if (slots[2 * n] == p) {
+    for (size_t n = first; n < end; n++) {
+        if (slots[2 * n] == p && occupied(slots[2 * n + 1])) {
             found.held = n;
             break;
         }
+        if (found.vacant == end && !occupied(slots[2 * n + 1]))
+            found.vacant = n;
+    }
     return found;
 }
 
@@ -126,14 +126,14 @@ uint64_t hand_add(uint32_t k, uint32_t d, uint32_t e, uint32_t s, uint32_t a, ui
     if (hop > 65535)
         return REFUSED(5);
     if (length == 0) {
-        if (occupied(slots[slots_words - 1]))
-            return REFUSED(6);
         slots[slots_words - 1] = hop + 1;
         return 0;
     }
     struct found found = search(&t, slots, length, prefix);
-    if (found.held != found.none)
-        return REFUSED(6);
+    if (found.held != found.none) {
+        slots[2 * found.held + 1] = hop + 1;
+        return 0;
+    }
     if (found.vacant == found.none)
         return REFUSED(8);
     size_t place[8];

@@ -4,9 +4,11 @@
  *     forward [PREFIX HOP]...
  *
  * The routes are the arguments, as 10.0.0.0/8 7; without arguments they are 10.0.0.0/8 to hop 7 and
- * 10.1.0.0/16 to hop 9. Each line of standard input is an address. For each, one line is written: hop,
- * length and probes, or "none" and the probes. A line that is no address is told on standard error,
- * its odd bytes as \xNN, and passed over; the exit status is then 1.
+ * 10.1.0.0/16 to hop 9. Where a prefix is given again, its last hop stands.
+ *
+ * Each line of standard input is an address. For each, one line is written: hop, length and probes, or
+ * "none" and the probes. A line that is no address is told on standard error, its odd bytes as \xNN, and
+ * passed over; the exit status is then 1.
  *
  * Addresses that come in together are looked up together, a lot by one call, and are answered before more
  * is read. So a line that a person types is answered at once.
@@ -100,7 +102,7 @@ static int accepted(const char *call, uint32_t refusal)
     return refusal == GATEWAY_OK;
 }
 
-/* Adds a route given as text; says on standard error why it cannot be. */
+/* Adds a route given as text, in place of one with the same prefix; says on standard error why it cannot be. */
 static int add_route(const char *route, const char *hop)
 {
     const char *at = route, *hop_at = hop;

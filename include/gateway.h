@@ -39,7 +39,7 @@
  * has the functions that take an answer apart. The functions on a table stand on them and are tested.
  *
  * Choosing settings. A length has 2^e buckets of s slots, and a route goes into the one bucket that
- * its prefix hashes to: once that is full the route is refused, however empty the others are. So a
+ * its prefix hashes to: once that is full a new route is refused, however empty the others are. So a
  * table takes far fewer routes than it has slots. For the most routes that any one length has:
  *
  *     routes    k   d  e  s     bytes    tables that take them all
@@ -72,7 +72,7 @@ extern "C" {
 #endif
 
 /* The version of this header, of its archive and of its pkg-config file; CHANGELOG.md tells them apart. */
-#define GATEWAY_VERSION "0.3.0"
+#define GATEWAY_VERSION "0.4.0"
 
 /* An answer that is not looked at is a refusal that nobody sees: the compiler warns of it. */
 #if defined(__GNUC__)
@@ -81,7 +81,7 @@ extern "C" {
 #define GATEWAY_ANSWERS
 #endif
 
-/* What a call refuses, in the order in which it checks. 11 to 17 are given by no call. */
+/* What a call refuses, in the order in which it checks. 6 and 11 to 17 are given by no call. */
 enum {
     GATEWAY_OK = 0,
     GATEWAY_BAD_SETTINGS = 1,   /* k, d, e or s is out of its range */
@@ -89,10 +89,10 @@ enum {
     GATEWAY_BAD_LENGTH = 3,     /* the length is above 32 */
     GATEWAY_HOST_BIT = 4,       /* the prefix has a bit set after its length */
     GATEWAY_BAD_HOP = 5,        /* the hop is above 65535 */
-    GATEWAY_STORED = 6,         /* add: the prefix is already stored */
+    GATEWAY_STORED = 6,         /* add up to 0.3: the prefix is already stored; the number is not used anew */
     GATEWAY_NOT_STORED = 7,     /* withdraw, change: the prefix is not stored */
-    GATEWAY_BUCKET_FULL = 8,    /* add: every slot of the prefix's bucket is occupied */
-    GATEWAY_COUNTER_FULL = 9,   /* add: a counter would pass 15 */
+    GATEWAY_BUCKET_FULL = 8,    /* add of a prefix not stored: every slot of its bucket is occupied */
+    GATEWAY_COUNTER_FULL = 9,   /* add of a prefix not stored: a counter would pass 15 */
     GATEWAY_COUNTER_SHORT = 10, /* withdraw: a counter would pass below 0; the memory is damaged */
     GATEWAY_BAD_LIST = 18       /* lookup list: no whole addresses, or not four result words to each */
 };
@@ -301,7 +301,8 @@ GATEWAY_ANSWERS static inline uint32_t gateway_table_clear(struct gateway_table 
     return gateway_refusal(gateway_clear(GATEWAY_SETTINGS_OF(table), GATEWAY_WORDS_OF(table)));
 }
 
-/* Stores a route. Its prefix must not be stored yet. */
+/* Stores a route. A prefix that is stored with this length gets the new hop in place of its old one: this
+   takes no room, so no full bucket or counter stands in its way. */
 GATEWAY_ANSWERS static inline uint32_t gateway_table_add(struct gateway_table *table, uint32_t prefix,
                                                          uint32_t length, uint32_t hop)
 {
@@ -309,7 +310,7 @@ GATEWAY_ANSWERS static inline uint32_t gateway_table_add(struct gateway_table *t
         gateway_add(GATEWAY_SETTINGS_OF(table), GATEWAY_WORDS_OF(table), prefix, length, hop));
 }
 
-/* Takes a stored route out. */
+/* Takes a stored route out, however often it was added. */
 GATEWAY_ANSWERS static inline uint32_t gateway_table_withdraw(struct gateway_table *table,
                                                               uint32_t prefix, uint32_t length)
 {
@@ -317,7 +318,7 @@ GATEWAY_ANSWERS static inline uint32_t gateway_table_withdraw(struct gateway_tab
         gateway_withdraw(GATEWAY_SETTINGS_OF(table), GATEWAY_WORDS_OF(table), prefix, length));
 }
 
-/* Gives a stored route a new hop. */
+/* Gives a stored route a new hop, as add does, but stores none: a prefix that is not stored is refused. */
 GATEWAY_ANSWERS static inline uint32_t gateway_table_change(struct gateway_table *table,
                                                             uint32_t prefix, uint32_t length,
                                                             uint32_t hop)

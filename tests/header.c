@@ -51,6 +51,7 @@ int main(void)
     for (uint32_t refusal = GATEWAY_OK; refusal <= GATEWAY_COUNTER_SHORT; refusal++)
         CHECK(gateway_refusal_text(refusal) != gateway_refusal_text(UINT32_MAX));
     CHECK(gateway_refusal_text(GATEWAY_BAD_LIST) != gateway_refusal_text(UINT32_MAX));
+    CHECK(GATEWAY_STORED == 6); /* given by no call, and not used anew */
 
     /* Four words to a result, with nothing between them. */
     const struct gateway_result results[2] = {{1, 2, 3, 4}, {5, 6, 7, 8}};

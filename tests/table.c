@@ -1,6 +1,6 @@
 /*
  * The calls of gateway.h on a table, over the archive: worked cases of docs/TABLE.md, every refusal
- * as the plain number that it is, and what docs/SETTINGS.md says of ninety routes.
+ * as the plain number that it is, adds of what is stored, and what docs/SETTINGS.md says of ninety routes.
  */
 #include <gateway.h>
 
@@ -74,7 +74,6 @@ static void run_refusals(void)
     CHECK(gateway_table_change(&table, 0x0a000000, 8, 7) == GATEWAY_NOT_STORED);
     for (uint32_t host = 1; host <= 3; host++)
         CHECK(gateway_table_add(&table, host, 32, 7) == GATEWAY_OK);
-    CHECK(gateway_table_add(&table, 3, 32, 7) == GATEWAY_STORED);
     CHECK(gateway_table_add(&table, 4, 32, 7) == GATEWAY_COUNTER_FULL);
     counters[GATEWAY_COUNTERS_BYTES(4) - 16] = 0;
     CHECK(gateway_table_withdraw(&table, 3, 32) == GATEWAY_COUNTER_SHORT);
@@ -87,6 +86,113 @@ static void run_refusals(void)
     CHECK(gateway_table_clear(&other) == GATEWAY_BAD_SETTINGS);
     CHECK(is_refused(gateway_table_lookup(&other, 0), GATEWAY_BAD_SETTINGS));
     CHECK(gateway_table_match_vector(&other, 0).refusal == GATEWAY_BAD_SETTINGS);
+}
+
+/* Adds a route, and tells whether that gives this number and leaves all memory as it was, but for this word where
+   it is accepted: there is the mark of the hop then. */
+static int adds_in(struct gateway_table *table, uint32_t prefix, uint32_t length, uint32_t hop, uint32_t refusal,
+                   size_t word)
+{
+    static uint8_t same[sizeof counters];
+    static uint32_t left[sizeof slots / sizeof slots[0]];
+    memcpy(same, counters, sizeof counters);
+    memcpy(left, slots, sizeof slots);
+    if (refusal == GATEWAY_OK)
+        left[word] = hop + 1;
+    return gateway_table_add(table, prefix, length, hop) == refusal &&
+           memcmp(counters, same, sizeof counters) == 0 && memcmp(slots, left, sizeof slots) == 0;
+}
+
+static int replaces(struct gateway_table *table, uint32_t prefix, uint32_t length, uint32_t hop, size_t word)
+{
+    return slots[word] != hop + 1 && adds_in(table, prefix, length, hop, GATEWAY_OK, word);
+}
+
+static int refuses(struct gateway_table *table, uint32_t prefix, uint32_t length, uint32_t hop, uint32_t refusal)
+{
+    return adds_in(table, prefix, length, hop, refusal, 0);
+}
+
+/* Whether an address goes to this route after so many probes, by itself and in a list. */
+static int goes_to(const struct gateway_table *table, uint32_t address, uint32_t hop, uint32_t length,
+                   uint32_t probes)
+{
+    struct gateway_result result;
+    return is(gateway_table_lookup(table, address), 1, hop, length, probes) &&
+           gateway_table_lookup_list(table, &address, 1, &result) == GATEWAY_OK && result.found == 1 &&
+           result.hop == hop && result.length == length && result.probes == probes;
+}
+
+static int is_empty(const struct gateway_table *table)
+{
+    size_t used = 0;
+    for (size_t i = 0; i < table->counters_bytes; i++)
+        used += table->counters[i] != 0;
+    for (size_t i = 0; i < table->slots_words; i++)
+        used += table->slots[i] != 0;
+    return used == 0;
+}
+
+/* An add of a stored prefix, under settings T: bucket 0 of length 8 has words 56 to 59, the default 256. */
+static void run_replaced(void)
+{
+    struct gateway_table table = cleared(2, 4, 1, 2, 1, 2, 1);
+    CHECK(gateway_table_add(&table, 0x0a000000, 8, 7) == GATEWAY_OK);
+    CHECK(replaces(&table, 0x0a000000, 8, 8, 57));
+    CHECK(goes_to(&table, 0x0a020203, 8, 8, 1));
+    CHECK(replaces(&table, 0x0a000000, 8, 65535, 57) && replaces(&table, 0x0a000000, 8, 0, 57));
+    CHECK(goes_to(&table, 0x0a020203, 0, 8, 1));
+    CHECK(adds_in(&table, 0x0a000000, 8, 0, GATEWAY_OK, 57)); /* the hop that it has: nothing changes */
+    CHECK(refuses(&table, 0x0a000000, 8, 65536, GATEWAY_BAD_HOP));
+    CHECK(refuses(&table, 0x0a000000, 8, UINT32_MAX, GATEWAY_BAD_HOP));
+    CHECK(refuses(&table, 0x0a000001, 8, 8, GATEWAY_HOST_BIT));
+
+    /* 8.0.0.0/8 fills the bucket. */
+    CHECK(gateway_table_add(&table, 0x08000000, 8, 5) == GATEWAY_OK);
+    CHECK(replaces(&table, 0x08000000, 8, 6, 59) && replaces(&table, 0x0a000000, 8, 9, 57));
+    CHECK(goes_to(&table, 0x08010203, 6, 8, 1) && goes_to(&table, 0x0a020203, 9, 8, 1));
+    CHECK(refuses(&table, 0x09000000, 8, 6, GATEWAY_BUCKET_FULL));
+    CHECK(refuses(&table, 0x09000000, 8, 65536, GATEWAY_BAD_HOP));
+
+    CHECK(replaces(&table, 0, 0, 3, 256) && replaces(&table, 0, 0, 4, 256));
+    CHECK(goes_to(&table, 0x0b000001, 4, 0, 0));
+    CHECK(refuses(&table, 0, 0, 65536, GATEWAY_BAD_HOP));
+
+    /* The slot before it is free, and stays so. One withdrawal takes out what was added three times. */
+    CHECK(gateway_table_withdraw(&table, 0x0a000000, 8) == GATEWAY_OK);
+    CHECK(replaces(&table, 0x08000000, 8, 7, 59));
+    CHECK(gateway_table_withdraw(&table, 0x08000000, 8) == GATEWAY_OK);
+    CHECK(gateway_table_withdraw(&table, 0x08000000, 8) == GATEWAY_NOT_STORED);
+    CHECK(gateway_table_withdraw(&table, 0, 0) == GATEWAY_OK);
+    CHECK(is_empty(&table));
+
+    /* Damaged memory, with 10.0.0.0/8 in both slots: the lower one is written, if it is occupied. */
+    slots[56] = slots[58] = 0x0a000000;
+    slots[57] = slots[59] = 6;
+    CHECK(replaces(&table, 0x0a000000, 8, 8, 57));
+    slots[57] = 65537;
+    CHECK(replaces(&table, 0x0a000000, 8, 8, 59));
+}
+
+/* The same where one more hit would pass 15: on the table of P9, whose length 32 has words 248 to 255, and on
+   that of P10 whose only slot, words 62 and 63, is occupied besides. */
+static void run_replaced_at_15(void)
+{
+    struct gateway_table table = cleared(5, 4, 0, 4, 0, 0, 0);
+    for (uint32_t host = 1; host <= 3; host++)
+        CHECK(gateway_table_add(&table, host, 32, 1) == GATEWAY_OK);
+    CHECK(counters[496] == 15);
+    CHECK(replaces(&table, 1, 32, 4, 249) && replaces(&table, 2, 32, 5, 251) && replaces(&table, 3, 32, 6, 253));
+    CHECK(goes_to(&table, 1, 4, 32, 1) && goes_to(&table, 2, 5, 32, 1) && goes_to(&table, 3, 6, 32, 1));
+    CHECK(refuses(&table, 4, 32, 1, GATEWAY_COUNTER_FULL));
+    for (uint32_t host = 1; host <= 3; host++)
+        CHECK(gateway_table_withdraw(&table, host, 32) == GATEWAY_OK);
+    CHECK(is_empty(&table));
+
+    table = cleared(8, 4, 0, 1, 0, 0, 0);
+    CHECK(gateway_table_add(&table, 1, 32, 1) == GATEWAY_OK);
+    CHECK(replaces(&table, 1, 32, 4, 63));
+    CHECK(refuses(&table, 2, 32, 1, GATEWAY_BUCKET_FULL));
 }
 
 /* The addresses of P4 to P7, and what they give on the table of P5 to P7. */
@@ -187,6 +293,8 @@ int main(void)
 {
     run_worked();
     run_refusals();
+    run_replaced();
+    run_replaced_at_15();
     run_list();
     run_long_list();
     CHECK(ninety(cleared(4, 10, 7, 8, GATEWAY_GOOD_A, GATEWAY_GOOD_B, GATEWAY_GOOD_C), GATEWAY_OK) == 90);
