@@ -5,6 +5,7 @@ use crate::library::{Area, Library, MARGIN};
 use crate::pair::{Difference, Pair};
 use crate::random::Random;
 use crate::random_lists;
+use crate::replacing;
 use crate::routes::Routes;
 use crate::rules;
 use crate::slips::Slip;
@@ -33,6 +34,9 @@ const COUNTS: [u8; 11] = [0, 0, 1, 2, 7, 13, 14, 15, 16, 254, 255];
 
 /// The routes of the histories that fill their tables.
 const MOST_ROUTES: usize = 4000;
+
+/// So many histories of a hundred bring counters to 15 and keep them there.
+const CROWDED: usize = 12;
 
 /// So many calls of a thousand have a list of addresses.
 const LISTS: usize = 15;
@@ -64,18 +68,23 @@ pub fn run(
     tally: &mut Tally,
 ) -> Result<(), Failure> {
     let mut random = Random::new(seed, history);
-    let t = settings(&mut random);
-    let pool = pool(&mut random);
+    let crowded = random.percent(CROWDED);
+    let t = settings(&mut random, crowded);
+    let pool = pool(&mut random, crowded);
     let adds = random.pick(&[35, 50, 65, 80]);
     tally.histories += 1;
     History { library, random, manner, tally, t, pool, adds, made: 0 }.run()
 }
 
 /// Settings over their whole ranges, the small tables oftener.
-fn settings(random: &mut Random) -> Settings {
+fn settings(random: &mut Random, crowded: bool) -> Settings {
     let mut t = most_settings(random);
     if random.percent(2) {
         (t.d, t.e, t.s) = (11, 8, 8);
+    }
+    if crowded {
+        // Every step lands on position 0: five routes of a length, or three, bring its counter to 15.
+        (t.k, t.s, t.a, t.b) = (random.pick(&[3, 5]), random.within(5, 8), 0, 0);
     }
     t
 }
@@ -111,9 +120,9 @@ fn multiplier(random: &mut Random) -> u32 {
 }
 
 /// The routes that a history is about: prefixes with their lengths, some within others.
-fn pool(random: &mut Random) -> Vec<(u32, u32)> {
+fn pool(random: &mut Random, crowded: bool) -> Vec<(u32, u32)> {
     let few = [random.within(0, 32), random.within(1, 32), random.pick(&[1, 8, 24, 32])];
-    let every = random.percent(50);
+    let every = !crowded && random.percent(50);
     let narrow = random.percent(35);
     let many = if random.percent(2) { MOST_ROUTES } else { random.pick(&[3, 8, 20, 60, 200, 1000]) };
     let mut pool: Vec<(u32, u32)> = Vec::with_capacity(many);
@@ -227,21 +236,26 @@ impl History<'_> {
         if self.manner.show {
             say!("call {}: {}", self.made, told(t, lent, call));
         }
-        let answered = match call {
-            AnyCall::One(call) => pair.call(self.library, t, lent, call),
-            AnyCall::List(list) => pair.call_list(self.library, t, lent, list).map(|listed| listed.answer),
-        };
-        match answered {
-            Ok(answer) => {
-                if self.manner.show {
-                    say!("  {}", Answer::to(call, answer));
-                }
-                self.tally.count(call, answer);
-                self.made += 1;
-                Ok(answer)
+        let (met, answered) = match call {
+            AnyCall::One(call) => {
+                let met = if *t == self.t { replacing::met(pair, t, call) } else { None };
+                (met, pair.call(self.library, t, lent, call))
             }
-            Err(difference) => Err(self.failure(t, lent, call, difference)),
+            AnyCall::List(list) => {
+                (None, pair.call_list(self.library, t, lent, list).map(|listed| listed.answer))
+            }
+        };
+        let answer = answered.map_err(|difference| self.failure(t, lent, call, difference))?;
+        if self.manner.show {
+            say!("  {}", Answer::to(call, answer));
         }
+        let counted = self.tally.count(call, answer);
+        counted.map_err(|difference| self.failure(t, lent, call, difference))?;
+        if let (0, Some(met)) = (answer, met) {
+            self.tally.count_replacing(met, pair.routes.is_none());
+        }
+        self.made += 1;
+        Ok(answer)
     }
 
     /// Asks again, on slots that do not begin at a word's address.
@@ -276,26 +290,35 @@ impl History<'_> {
             false => self.random.word() & 0xffff,
         };
         if self.random.percent(self.adds) {
-            let (prefix, length) = match self.random.percent(85) {
-                true => self.random.pick(&self.pool),
-                false => {
+            let (prefix, length) = match self.random.below(100) {
+                0..=69 => self.random.pick(&self.pool),
+                70..=84 => self.stored_or_of_pool(pair),
+                _ => {
                     let length = self.random.within(0, 32);
                     (rules::prefix(length, self.random.word()), length)
                 }
             };
             return Call::Add { prefix, length, hop };
         }
-        let stored = pair.routes.as_ref().map_or(&[][..], |routes| routes.list());
-        let (prefix, length) = if !stored.is_empty() && self.random.percent(75) {
-            let route = &stored[self.random.below(stored.len())];
-            (route.prefix, route.length)
-        } else {
-            self.random.pick(&self.pool)
+        let (prefix, length) = match self.random.percent(75) {
+            true => self.stored_or_of_pool(pair),
+            false => self.random.pick(&self.pool),
         };
         if self.random.percent(70) {
             Call::Withdraw { prefix, length }
         } else {
             Call::Change { prefix, length, hop }
+        }
+    }
+
+    /// A stored route, where it is known which are, or else one of the pool.
+    fn stored_or_of_pool(&mut self, pair: &Pair) -> (u32, u32) {
+        match pair.routes.as_ref().map_or(&[][..], |routes| routes.list()) {
+            [] => self.random.pick(&self.pool),
+            stored => {
+                let route = &stored[self.random.below(stored.len())];
+                (route.prefix, route.length)
+            }
         }
     }
 

@@ -26,6 +26,7 @@ mod program;
 mod random;
 mod random_lines;
 mod random_lists;
+mod replacing;
 mod routes;
 mod rules;
 mod slips;
@@ -60,7 +61,7 @@ target/bin/routes unless told.";
 /// How many lines are compared unless told.
 const LINES: u64 = 6000;
 
-/// From so many calls on, a run must have met every refusal.
+/// From so many calls on, a run must have met every refusal and all that adds of stored prefixes can meet.
 const MANY_CALLS: u64 = 100_000;
 
 /// A slip that so many histories do not show is not found.

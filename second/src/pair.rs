@@ -70,6 +70,13 @@ impl Pair {
         self.slots[MARGIN + at]
     }
 
+    /// All counters, and all words of the slots; they are the same in both memories after a call.
+    pub fn memory(&self) -> (Vec<u8>, Vec<u32>) {
+        let counters = &self.counters[MARGIN..MARGIN + counter_bytes(&self.t)];
+        let slots = &self.slots[MARGIN..MARGIN + slot_words(&self.t)];
+        (counters.to_vec(), slots.to_vec())
+    }
+
     /// Writes a counter in both memories, as damage.
     pub fn damage_counter(&mut self, library: &mut Library, at: usize, value: u8) {
         self.counters[MARGIN + at] = value;

@@ -1,6 +1,8 @@
 //! What a run has seen. A run that never met a refusal or a kind of answer has compared nothing there.
 
 use crate::calls::{AnyCall, Call};
+use crate::pair::Difference;
+use crate::replacing::{MEETS, MEETS_UNDAMAGED};
 use std::fmt;
 
 const CALLS: [&str; 7] = ["clear", "add", "withdraw", "change", "match vector", "lookup", "list"];
@@ -8,7 +10,7 @@ const CALLS: [&str; 7] = ["clear", "add", "withdraw", "change", "match vector", 
 /// The refusals that each call can give.
 const GIVES: [&[usize]; CALLS.len()] = [
     &[0, 1, 2],
-    &[0, 1, 2, 3, 4, 5, 6, 8, 9],
+    &[0, 1, 2, 3, 4, 5, 8, 9],
     &[0, 1, 2, 3, 4, 7, 10],
     &[0, 1, 2, 3, 4, 5, 7],
     &[0, 1, 2],
@@ -16,8 +18,12 @@ const GIVES: [&[usize]; CALLS.len()] = [
     &[0, 1, 2, 18],
 ];
 
-/// How many refusals are counted apart; any above them counts as the last.
-const REFUSALS: usize = 20;
+/// Room for every refusal that a call can give.
+const REFUSALS: usize = 19;
+
+/// Where adds of stored prefixes are counted apart, and how much of what they can meet is met there.
+const REPLACING: [(&str, usize); 2] =
+    [("after a clear", MEETS_UNDAMAGED), ("over damaged memory", MEETS.len())];
 
 #[derive(Default)]
 pub struct Tally {
@@ -32,10 +38,14 @@ pub struct Tally {
     single: u64,
     many: u64,
     most_addresses: usize,
+    /// Accepted adds of stored prefixes, and what they met.
+    replaced: [u64; REPLACING.len()],
+    met: [[u64; MEETS.len()]; REPLACING.len()],
 }
 
 impl Tally {
-    pub fn count(&mut self, call: AnyCall, answer: u64) {
+    /// Counts an answer, unless its refusal is one that the call never gives.
+    pub fn count(&mut self, call: AnyCall, answer: u64) -> Result<(), Difference> {
         let row = match call {
             AnyCall::One(Call::Clear) => 0,
             AnyCall::One(Call::Add { .. }) => 1,
@@ -46,11 +56,24 @@ impl Tally {
             AnyCall::List(_) => 6,
         };
         let refusal = (answer >> 48) as usize;
-        self.given[row][refusal.min(REFUSALS - 1)] += 1;
+        if !GIVES[row].contains(&refusal) {
+            return Err(Difference(format!("both give refusal {refusal}, which no {} gives", CALLS[row])));
+        }
+        self.given[row][refusal] += 1;
         match call {
             AnyCall::One(Call::Lookup { .. }) if refusal == 0 => self.count_lookup(answer),
             AnyCall::List(list) if refusal == 0 => self.count_list(list.addresses.len() / 4),
             _ => {}
+        }
+        Ok(())
+    }
+
+    /// Counts an accepted add of a stored prefix.
+    pub fn count_replacing(&mut self, met: [bool; MEETS.len()], damaged: bool) {
+        let row = usize::from(damaged);
+        self.replaced[row] += 1;
+        for (times, met) in self.met[row].iter_mut().zip(met) {
+            *times += u64::from(met);
         }
     }
 
@@ -91,8 +114,15 @@ impl Tally {
             (self.single, "list of one address was accepted"),
             (self.many, "list of more addresses was accepted"),
         ];
-        let missed = met.iter().find(|(times, _)| *times == 0);
-        missed.map(|(_, what)| format!("no {what}"))
+        if let Some((_, what)) = met.iter().find(|(times, _)| *times == 0) {
+            return Some(format!("no {what}"));
+        }
+        for ((when, meets), met) in REPLACING.iter().zip(self.met) {
+            if let Some(missed) = met[..*meets].iter().position(|times| *times == 0) {
+                return Some(format!("no add of a stored prefix {} was accepted {when}", MEETS[missed]));
+            }
+        }
+        None
     }
 }
 
@@ -124,6 +154,13 @@ impl fmt::Display for Tally {
             f,
             "  lists: of no address {}, of one {}, of more {}, at most {} addresses",
             self.empty, self.single, self.many, self.most_addresses
-        )
+        )?;
+        for (row, (when, meets)) in REPLACING.iter().enumerate() {
+            write!(f, "\n  accepted adds of stored prefixes {when}: {}", self.replaced[row])?;
+            for (meets, times) in MEETS[..*meets].iter().zip(self.met[row]) {
+                write!(f, ", {meets}: {times}")?;
+            }
+        }
+        Ok(())
     }
 }

@@ -6,6 +6,7 @@ use crate::lines::{answers, lines, Reader};
 use crate::program::Program;
 use crate::random::Random;
 use crate::random_lines::RandomLines;
+use std::collections::HashSet;
 use std::fmt;
 use std::io::{self, BufRead, Write};
 use std::time::Instant;
@@ -17,10 +18,10 @@ const MANY_LINES: u64 = 5000;
 /// counter to 15: no line can reach the other refusals.
 const KINDS: [&str; 11] = [
     "ok",
+    REPLACED,
     "refused 3",
     "refused 4",
     "refused 5",
-    "refused 6",
     "refused 7",
     "refused 8",
     "a route",
@@ -28,6 +29,9 @@ const KINDS: [&str; 11] = [
     "none",
     "unreadable",
 ];
+
+/// An ok that is counted apart.
+const REPLACED: &str = "ok to an add of a stored prefix";
 
 /// A slip that so many inputs do not show is not found.
 const INPUTS_TO_THE_SLIPS: u64 = 100;
@@ -80,7 +84,8 @@ impl Text {
         let input = Input::new(self.seed, number);
         let (theirs, went) = program.answers(&input.bytes, &input.pieces);
         let compared = compare(&input.bytes, &theirs, &answers(&input.bytes, None));
-        if went.is_ok() && compared.is_ok() {
+        let strange = lines(&theirs).into_iter().find(|answer| !KINDS.contains(&kind_of(answer)));
+        if went.is_ok() && compared.is_ok() && strange.is_none() {
             return Some((input, theirs));
         }
         say!("second: DIFFERENCE under seed {} in input {number}", self.seed);
@@ -89,6 +94,8 @@ impl Text {
         }
         if let Err(difference) = compared {
             say!("{difference}");
+        } else if let Some(answer) = strange {
+            say!("both programs answer {}, which no line gets", told(answer));
         }
         say!("{}", self.replay(number));
         None
@@ -210,9 +217,14 @@ impl Tally {
     fn count(&mut self, input: &Input, answers: &[u8]) {
         self.inputs += 1;
         self.pieces += input.pieces.len();
-        for answer in lines(answers) {
+        let mut stored = HashSet::new();
+        for (line, answer) in lines(&input.bytes).into_iter().zip(lines(answers)) {
             self.lines += 1;
-            let kind = KINDS.iter().position(|kind| *kind == kind_of(answer));
+            let kind = match kind_of(answer) {
+                "ok" if replaces(&mut stored, line) => REPLACED,
+                kind => kind,
+            };
+            let kind = KINDS.iter().position(|known| *known == kind);
             self.given[kind.expect("both programs gave an answer of a kind that there is")] += 1;
         }
     }
@@ -221,6 +233,19 @@ impl Tally {
     fn missing(&self) -> Option<&'static str> {
         let kind = self.given.iter().position(|times| *times == 0);
         kind.map(|kind| KINDS[kind])
+    }
+}
+
+/// Notes what an accepted line does to the stored routes; true if it adds one of them.
+fn replaces<'a>(stored: &mut HashSet<&'a [u8]>, line: &'a [u8]) -> bool {
+    let words: Vec<&[u8]> = line.split(|byte| *byte == b' ').collect();
+    match words[..] {
+        [b"add", route, _] => !stored.insert(route),
+        [b"drop", route] => {
+            stored.remove(route);
+            false
+        }
+        _ => false,
     }
 }
 

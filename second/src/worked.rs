@@ -21,6 +21,11 @@ fn found(hop: u64, length: u64, probes: u64) -> u64 {
     (1 << 40) + (hop << 16) + (length << 8) + probes
 }
 
+/// Settings with every multiplier zero, so that all steps of a route hit one counter.
+fn zero(k: u32, s: u32) -> Settings {
+    Settings { k, d: 4, e: 0, s, a: 0, b: 0, c: 0 }
+}
+
 /// Sizes that are wrong by one.
 fn one_off(Lent { counters, slots }: Lent) -> [Lent; 4] {
     [(counters + 1, slots), (counters - 1, slots), (counters, slots + 1), (counters, slots - 1)]
@@ -82,6 +87,14 @@ impl<'a> Case<'a> {
 
     fn add(&mut self, prefix: u32, length: u32, hop: u32, refusal: u64) -> Result<(), String> {
         self.gives(Call::Add { prefix, length, hop }, refused(refusal))
+    }
+
+    /// An add is accepted, and leaves this mark in this word and all else as it was.
+    fn replaces(&mut self, prefix: u32, length: u32, hop: u32, at: usize, mark: u32) -> Result<(), String> {
+        let (counters, mut slots) = self.pair.memory();
+        slots[at] = mark;
+        self.add(prefix, length, hop, 0)?;
+        self.holds(self.pair.memory() == (counters, slots), &format!("word {at} alone gets {mark}"))
     }
 
     fn lookup(&mut self, address: u32, answer: u64) -> Result<(), String> {
@@ -180,16 +193,15 @@ pub fn run(library: &mut Library) -> Result<(), String> {
     case.add(nine, 8, 7, 0)?;
     case.holds(case.pair.word(2 * (first_slot(&T, 8, nine) + 1)) == nine, "9/8 lies in slot 1")?;
 
-    let zero = Settings { k: 5, d: 4, e: 0, s: 4, a: 0, b: 0, c: 0 };
-    let mut case = Case::new(library, "P9", zero)?;
+    let mut case = Case::new(library, "P9", zero(5, 4))?;
     for prefix in 1..=3 {
         case.add(prefix, 32, 7, 0)?;
     }
-    case.holds(case.pair.counter(counter_at(&zero, 32, 0)) == 15, "the counter is 15")?;
+    case.holds(case.pair.counter(counter_at(&case.t, 32, 0)) == 15, "the counter is 15")?;
     case.add(4, 32, 7, 9)?;
 
     for (s, refusal) in [(2, 9), (1, 8)] {
-        let mut case = Case::new(library, "P10", Settings { k: 8, s, ..zero })?;
+        let mut case = Case::new(library, "P10", zero(8, s))?;
         case.add(1, 32, 7, 0)?;
         case.add(2, 32, 7, refusal)?;
     }
@@ -215,5 +227,73 @@ pub fn run(library: &mut Library) -> Result<(), String> {
             case.list_gives(lent, &list, refused(2), &list.results)?;
         }
     }
-    Ok(())
+    stored_again(library)
+}
+
+/// Stored prefixes that are added again.
+fn stored_again(library: &mut Library) -> Result<(), String> {
+    let (ten, eight, nine) = (address(10, 0, 0, 0), address(8, 0, 0, 0), address(9, 0, 0, 0));
+
+    let mut case = Case::new(library, "W7", T)?;
+    case.add(ten, 8, 7, 0)?;
+    case.replaces(ten, 8, 8, 57, 9)?;
+    case.replaces(ten, 8, 8, 57, 9)?;
+    case.lookup(address(10, 2, 2, 3), found(8, 8, 1))?;
+    case.vector(address(10, 2, 2, 3), 128)?;
+    case.add(ten, 8, 65_536, 5)?;
+    case.replaces(ten, 8, 65_535, 57, 65_536)?;
+    case.replaces(ten, 8, 0, 57, 1)?;
+    case.lookup(ten, found(0, 8, 1))?;
+    case.gives(Call::Withdraw { prefix: ten, length: 8 }, 0)?;
+    case.lookup(ten, 0)?;
+    case.gives(Call::Withdraw { prefix: ten, length: 8 }, refused(7))?;
+
+    let mut case = Case::new(library, "W7 in a full bucket", T)?;
+    case.add(ten, 8, 7, 0)?;
+    case.add(eight, 8, 5, 0)?;
+    case.replaces(eight, 8, 6, 59, 7)?;
+    case.lookup(address(8, 1, 2, 3), found(6, 8, 1))?;
+    case.replaces(ten, 8, 1, 57, 2)?;
+    case.add(nine, 8, 6, 8)?;
+    case.gives(Call::Withdraw { prefix: ten, length: 8 }, 0)?;
+    case.replaces(eight, 8, 4, 59, 5)?;
+    case.add(nine, 8, 6, 0)?;
+    case.holds(case.pair.word(56) == nine, "9/8 lies in slot 0, which was free")?;
+
+    for (s, mark_of_two, refusal) in [(4, 251, 9), (3, 189, 8)] {
+        let mut case = Case::new(library, "W7 with a counter of 15", zero(5, s))?;
+        for prefix in 1..=3 {
+            case.add(prefix, 32, 1, 0)?;
+        }
+        case.replaces(2, 32, 4, mark_of_two, 5)?;
+        case.lookup(2, found(4, 32, 1))?;
+        case.add(4, 32, 1, refusal)?;
+    }
+    for (s, mark, refusal) in [(2, 125, 9), (1, 63, 8)] {
+        let mut case = Case::new(library, "W7 without room for its hits", zero(8, s))?;
+        case.add(1, 32, 1, 0)?;
+        case.replaces(1, 32, 4, mark, 5)?;
+        case.add(2, 32, 1, refusal)?;
+    }
+
+    let mut case = Case::new(library, "W7 with the default", T)?;
+    case.add(0, 0, 3, 0)?;
+    case.replaces(0, 0, 4, 256, 5)?;
+    case.lookup(address(11, 0, 0, 1), found(4, 0, 0))?;
+
+    let mut case = Case::new(library, "W8", T)?;
+    case.add(ten, 8, 7, 0)?;
+    case.pair.routes = None;
+    case.pair.damage_word(case.library, 58, ten);
+    case.pair.damage_word(case.library, 59, 6);
+    case.pair.damage_counter(case.library, 112, 0);
+    case.pair.damage_counter(case.library, 113, 0);
+    case.replaces(ten, 8, 8, 57, 9)?;
+    case.lookup(ten, 0)?;
+    case.pair.damage_word(case.library, 57, 65_537);
+    case.replaces(ten, 8, 3, 59, 4)?;
+    case.pair.damage_word(case.library, 59, 65_537);
+    case.add(ten, 8, 3, 0)?;
+    case.holds(case.pair.word(57) == 4 && case.pair.word(59) == 65_537, "10/8 is added to slot 0")?;
+    case.holds(case.pair.counter(112) == 1 && case.pair.counter(113) == 1, "its counters are raised")
 }
