@@ -103,6 +103,9 @@ not-this k false number after here later = later
 not-before-5 : (k p L after : ℕ) → 5 ≤ k → after ≢ k → refuse (ltb 32 L) 3 (refuse (loose L p) 4 after) ≢ k
 not-before-5 k p L after high later = not-this k (ltb 32 L) 3 _ (omega arith) (not-this k (loose L p) 4 after (omega arith) later)
 
+stored-only : (routes : List Route) (p L : ℕ) → refuse (not (exists (about p L) routes)) 7 0 ≢ 10
+stored-only routes p L = not-this 10 (not (exists (about p L) routes)) 7 0 (omega arith) (omega arith)
+
 pub number-not-10 : (t : Settings) (routes : List Route) (call : Call) → number-given t routes call ≢ 10
 unfolding number-given add-number withdraw-number change-number
 number-not-10 t routes Clear = omega arith
@@ -111,9 +114,8 @@ number-not-10 t routes (Add p L hop) =
     (not-this 10 (ltb 65535 hop) 5 _ (omega arith)
     (not-this 10 (needs-place routes L p && crowded t routes L p) 8 _ (omega arith)
     (not-this 10 (needs-place routes L p && overflows t routes L p) 9 0 (omega arith) (omega arith))))
-number-not-10 t routes (Withdraw p L) = not-before-5 10 p L _ (lit≤ tt) (not-this 10 (not (exists (about p L) routes)) 7 0 (omega arith) (omega arith))
-number-not-10 t routes (Change p L hop) =
-    not-before-5 10 p L _ (lit≤ tt) (not-this 10 (ltb 65535 hop) 5 _ (omega arith) (not-this 10 (not (exists (about p L) routes)) 7 0 (omega arith) (omega arith)))
+number-not-10 t routes (Withdraw p L) = not-before-5 10 p L _ (lit≤ tt) (stored-only routes p L)
+number-not-10 t routes (Change p L hop) = not-before-5 10 p L _ (lit≤ tt) (not-this 10 (ltb 65535 hop) 5 _ (omega arith) (stored-only routes p L))
 
 -- 8 is not given where the bucket has room
 pub add-not-8 : (t : Settings) (routes : List Route) (p L hop : ℕ) → (1 ≤ L → crowded t routes L p ≡ false) → add-number t routes p L hop ≢ 8

@@ -3,11 +3,13 @@
 use Prim.Native.Nat.{ℕ, _^_, _≤_, _<_}
 use mathlib.Core.Path.{_≡_, refl, sym, ap, _∙_}
 use mathlib.Core.Bool.{Bool, true, false, cond, _&&_, true≢false}
-use mathlib.Core.List.{List, [], _∷_, List·Memᴰ·head, List·Memᴰ·tail, List·Memᴰ·not-nil, List·Memᴰ·cases-cons}
+use mathlib.Core.List.{List, [], _∷_}
 use mathlib.Core.Option.{Option, some, none}
-use mathlib.Core.Logic.{_⊎_, inl, inr, _≢_}
+use mathlib.Core.Logic.{_≢_}
+use native.Mathlib.Omega.{arith}
 use lib.Dec.{eqb, leb, ltb}
 use lib.ListN.{length}
+use borrow.Author.Tests.{eqb-true, eq-eqb}
 use Rattle.rules.specs.declared.Settings.{Settings}
 use Rattle.rules.specs.Tools.{all, any, those}
 use Rattle.rules.specs.Table.{prefix, positions, Memory, stored, lookup, match-vector, bits-where, down-from}
@@ -23,7 +25,6 @@ use Rattle.promises.proofs.Histories.{kept-next}
 use Rattle.promises.proofs.Anew.{sized}
 use Rattle.promises.proofs.Matches.{answer-by, vector-by, Right, right}
 use Rattle.promises.proofs.Lookups.{lookup-by-routes, vector-by-routes}
-use Rattle.promises.proofs.Answers.{finds}
 
 -- ---- What a new hop changes on paper
 
@@ -86,32 +87,6 @@ module _ (p L hop : ℕ) where
   answer-as-before t routes address (some r) =
       record { refusal = refl; found = refl; length = same-length r; probes = rw (same-length r) (probes-as-before t routes address (r .length)) }
 
-  -- routes with the new hop are those that were there, each with the new hop if it is its own
-  renewed-there : (q : Route) (routes : List Route) → Stored q routes → Stored (new-hop q) (with-hop p L hop routes)
-  unfolding with-hop
-  renewed-there q (r ∷ routes) (List·Memᴰ·head e) = List·Memᴰ·head (ap new-hop e)
-  renewed-there q (r ∷ routes) (List·Memᴰ·tail m) = List·Memᴰ·tail (renewed-there q routes m)
-
-  there-before : (q : Route) (routes : List Route) → Stored q (with-hop p L hop routes) → (r : Route) × Stored r routes × (q ≡ new-hop r)
-  unfolding with-hop
-  there-before q [] m = absurd (List·Memᴰ·not-nil m)
-  there-before q (r ∷ routes) m = go (List·Memᴰ·cases-cons m) (there-before q routes)
-    where
-      go : (q ≡ new-hop r) ⊎ Stored q (with-hop p L hop routes) → (Stored q (with-hop p L hop routes) → (o : Route) × Stored o routes × (q ≡ new-hop o))
-          → (o : Route) × Stored o (r ∷ routes) × (q ≡ new-hop o)
-      go (inl e) rest = (r, List·Memᴰ·head refl, e)
-      go (inr m) rest = let o = rest m in (o .0, List·Memᴰ·tail (o .1), o .2)
-
-  longest-renewed : (address : ℕ) (routes : List Route) (r : Route) → Longest address routes r → Longest address (with-hop p L hop routes) (new-hop r)
-  unfolding matches
-  longest-renewed address routes r best = record {
-    stored = renewed-there r routes (best .stored);
-    matching = rw (same-length r, same-prefix r) (best .matching);
-    longest = λ q m matching.
-        let o = there-before q routes m in
-        rw (same-length r, o .2, same-length (o .0)) (best .longest (o .0) (o .1) (rw (o .2, same-length (o .0), same-prefix (o .0)) at matching));
-  }
-
 -- ---- A stored route added again
 
 module _ {t : Settings} {routes : List Route} {m : Memory} (kept : Kept t routes m) (r : Route) (stands : Stored r routes) (hop : ℕ) (high : hop ≤ 65535) where
@@ -157,8 +132,13 @@ module _ {t : Settings} {routes : List Route} {m : Memory} (kept : Kept t routes
       record { stored = stands; matching = rw (← its .0, ← its .1) (best .matching); longest = rw (← its .1) (best .longest) }
 
   module _ (address : ℕ) (word : address < 2 ^ 32) where
+    -- what answered before answers then, with the new hop if it is its own
+    by-renewed : lookup t then address ≡ answer-by t (with-hop (r .prefix) (r .length) hop routes) address (renewed (r .prefix) (r .length) hop (longest address routes))
+    by-renewed = lookup-by-routes kept-again address word
+        ∙ ap (answer-by t (with-hop (r .prefix) (r .length) hop routes) address) (longest-as-before (r .prefix) (r .length) hop address routes)
+
     pub again-lookup : SameButHop (lookup t then address) (lookup t m address)
-    again-lookup = rw (lookup-by-routes kept-again address word, lookup-by-routes kept address word, longest-as-before (r .prefix) (r .length) hop address routes)
+    again-lookup = rw (by-renewed, lookup-by-routes kept address word)
         (answer-as-before (r .prefix) (r .length) hop t routes address (longest address routes))
 
     pub again-vector : match-vector t then address ≡ match-vector t m address
@@ -167,16 +147,28 @@ module _ {t : Settings} {routes : List Route} {m : Memory} (kept : Kept t routes
         ∙ ap (λ (covers : ℕ → Bool). record { refusal = 0; vector = bits-where covers 32 }) (λ i M. covered-as-before (r .prefix) (r .length) hop t routes address M i)
         ∙ sym (vector-by-routes kept address word)
 
-    -- the route about its own prefix and length has the new hop
-    pub again-finds : Longest address routes r → Finds (lookup t then address) (route (r .prefix) (r .length) hop)
-    again-finds best = finds kept-again address word (route (r .prefix) (r .length) hop)
-        (rw (own-about (r .prefix) (r .length) (r .hop)) at (longest-renewed (r .prefix) (r .length) hop address routes r best))
+    -- two longest matches have one prefix and length
+    one-match : (q : Route) → Longest address routes q → Longest address routes r → about (r .prefix) (r .length) q ≡ true
+    unfolding about matches
+    one-match q best own =
+        let as-long : q .length ≡ r .length = omega (arith, own .longest q (best .stored) (best .matching), best .longest r (own .stored) (own .matching)) in
+        let alike : q .prefix ≡ r .prefix = sym (eqb-true _ _ (best .matching)) ∙ ap (λ (n : ℕ). prefix n address) as-long ∙ eqb-true _ _ (own .matching) in
+        rw (eq-eqb _ _ alike, eq-eqb _ _ as-long)
 
-    -- where another route answers, or none, nothing changes
+    -- where the route answered, its new hop does
+    pub again-finds : Longest address routes r → Finds (lookup t then address) (route (r .prefix) (r .length) hop)
+    unfolding answer-by
+    again-finds own = rw by-renewed (go (longest address routes) (right address routes))
+      where
+        go : (o : Option Route) → Right address routes o
+            → Finds (answer-by t (with-hop (r .prefix) (r .length) hop routes) address (renewed (r .prefix) (r .length) hop o)) (route (r .prefix) (r .length) hop)
+        go none no-match = absurd (true≢false (sym (own .matching) ∙ no-match r stands))
+        go (some q) best = rw (one-match q best own) (record { refusal = refl; found = refl; hop = refl; length = refl })
+
+    -- where another route did, or none, nothing changes
     pub again-others : (Longest address routes r → ⊥) → lookup t then address ≡ lookup t m address
     unfolding answer-by
-    again-others other = rw (lookup-by-routes kept-again address word, lookup-by-routes kept address word, longest-as-before (r .prefix) (r .length) hop address routes)
-        (go (longest address routes) (right address routes))
+    again-others other = rw (by-renewed, lookup-by-routes kept address word) (go (longest address routes) (right address routes))
       where
         go : (o : Option Route) → Right address routes o
             → answer-by t (with-hop (r .prefix) (r .length) hop routes) address (renewed (r .prefix) (r .length) hop o) ≡ answer-by t routes address o

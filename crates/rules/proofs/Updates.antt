@@ -1,11 +1,12 @@
 -- What each update leaves past its checks, and how it ends by what its checks and its search of the bucket found.
-use Prim.Native.Nat.{ℕ, zero, suc, _+_, _-_}
+use Prim.Native.Nat.{ℕ, _+_, _-_}
 use mathlib.Core.Path.{_≡_, refl, sym, ap, _∙_}
 use mathlib.Core.Bool.{Bool, true, false, cond, not}
-use mathlib.Core.List.{List, [], _∷_}
+use mathlib.Core.List.{List}
 use mathlib.Core.Option.{some, none}
 use lib.Dec.{ltb, eqb}
-use lib.ListN.{getD, set}
+use lib.ListN.{set}
+use lib.Seq.{set-getD}
 use borrow.Author.Tests.{eqb-true, eq-eqb, ne-eqb, le-ltb}
 use Rattle.rules.specs.declared.Settings.{Settings}
 use Rattle.rules.specs.Table.{Memory, lent, left, default-word, prefix-word, mark-word, mark-of, slot-number, mark-at, prefix-at, default-mark, occupied, holds, held, vacant, is-some, stored, refuse, from-1, needs-slot, full, passes-15, runs-short, route-refusal, update, with-slot, with-default, with-found, counter-places, step-each, add-refusal, withdraw-refusal, change-refusal, added, withdrawn, changed, add, withdraw, change}
@@ -40,12 +41,6 @@ held-is-stored t slots L p up s there = rw (ne-eqb L 0 up, there)
 
 -- ---- What an update leaves, past its checks
 
--- what is written where it stands already changes nothing
-set-same : (xs : List ℕ) (i : ℕ) → set xs i (getD xs i 0) ≡ xs
-set-same [] i = refl
-set-same (x ∷ xs) zero = refl
-set-same (x ∷ xs) (suc i) = ap (λ others. x ∷ others) (set-same xs i)
-
 module _ (t : Settings) (m : Memory) (p L hop : ℕ) where
   pub added-slot : needs-slot t (m .slots) L p ≡ true → (s : ℕ) → vacant t (m .slots) L p ≡ some s
       → added t m p L hop ≡ lent (step-each (λ n. n + 1) (m .counters) (counter-places t L p)) (with-slot (m .slots) (slot-number t L p s) p (mark-of hop))
@@ -73,7 +68,7 @@ module _ (t : Settings) (m : Memory) (p L hop : ℕ) where
       let its-prefix = eqb-true _ p (both (occupied (mark-at (m .slots) (slot-number t L p s))) _ (some-lowest (holds t (m .slots) L p) (t .s) s lowest .passes) .1) in
       changed-slot up s lowest
       ∙ ap (λ slots. lent (m .counters) (set slots (mark-word (slot-number t L p s)) (mark-of hop)))
-      (ap (set (m .slots) (prefix-word (slot-number t L p s))) (sym its-prefix) ∙ set-same (m .slots) (prefix-word (slot-number t L p s)))
+      (ap (set (m .slots) (prefix-word (slot-number t L p s))) (sym its-prefix) ∙ set-getD (m .slots) (prefix-word (slot-number t L p s)) 0)
 
   pub changed-counters : changed t m p L hop .counters ≡ m .counters
   unfolding changed with-default
