@@ -5,7 +5,7 @@
 //! so that a slip gone astray reads zero and writes nothing.
 
 use super::calls::{Call, Lent, Settings};
-use super::slips::{swapped, unasked, Slip};
+use super::slips::{swapped, unasked, walks, Slip};
 
 /// The settings of the small worked table.
 pub const T: Settings = Settings { k: 2, d: 4, e: 1, s: 2, a: 1, b: 2, c: 1 };
@@ -54,22 +54,27 @@ fn steps(t: &Settings, p: u32, slip: Option<Slip>) -> Vec<usize> {
         Some(Slip::StrideSticks) => top.min(b as u64 * p as u64),
         _ => product(b, p),
     };
-    let mut g = match slip {
+    let start = match slip {
         Some(Slip::StartIsA) => a as u64,
         Some(Slip::StartStepLate) => (product(a, p) + stride) % two_to(32),
         Some(Slip::StartSticks) => top.min(a as u64 * p as u64),
         _ => product(a, p),
     };
+    grown(t, start, stride, slip)
+}
+
+/// The positions of g from its start, with what it grows by between them.
+fn grown(t: &Settings, start: u64, stride: u64, slip: Option<Slip>) -> Vec<usize> {
     let count = match slip {
         Some(Slip::StepFewer) => t.k.saturating_sub(1),
         Some(Slip::StepMore) => t.k + 1,
         _ => t.k,
     };
-    let mut found = Vec::new();
+    let (mut g, mut found) = (start, Vec::new());
     for _ in 0..count {
         found.push(position(t, g, slip) as usize);
         g = match slip {
-            Some(Slip::SumSticks) => top.min(g + stride),
+            Some(Slip::SumSticks) => (two_to(32) - 1).min(g + stride),
             Some(Slip::SumUnwrapped) => g + stride,
             _ => (g + stride) % two_to(32),
         };
@@ -718,12 +723,16 @@ impl Table<'_> {
 impl Table<'_> {
     /// Whether no counter of the prefix is zero.
     fn claimed(&self, length: u32, p: u32) -> bool {
+        self.all_count(length, self.steps(p))
+    }
+
+    /// Whether no counter at the steps is zero.
+    fn all_count(&self, length: u32, steps: Vec<usize>) -> bool {
         let counts = |j: &usize| match self.slip {
             Some(Slip::VectorAboveOne) => self.counter(length, *j) > 1,
             Some(Slip::VectorNibble) => self.counter(length, *j) & 15 != 0,
             _ => self.counter(length, *j) != 0,
         };
-        let steps = self.steps(p);
         match self.slip {
             Some(Slip::VectorAnyCounter) => steps.iter().any(counts),
             Some(Slip::VectorFirstCounter) => steps.iter().take(1).all(counts),
@@ -742,6 +751,10 @@ impl Table<'_> {
             Some(Slip::VectorTurned) => two_to(32 - length),
             _ => two_to(length - 1),
         };
+        if walks(self.slip) {
+            let claimed = self.walk(address).into_iter().filter(|stage| self.claimed_at(*stage));
+            return claimed.map(|stage| bit(stage.length)).sum();
+        }
         lengths.filter(|length| self.claimed(*length, self.cut(*length, address))).map(bit).sum()
     }
 
@@ -791,7 +804,7 @@ impl Table<'_> {
                 continue;
             }
             probes += self.or(1, Slip::ProbesSlots, self.t.s as u64);
-            let p = self.cut(length, address);
+            let p = self.sought(length, address);
             if let Some(n) = self.lowest(self.holding(length, p), Slip::LookupHighest) {
                 let hop = self.hop(self.mark(n)).unwrap_or(0);
                 return (Some((hop, length as u64)), probes);
@@ -801,6 +814,15 @@ impl Table<'_> {
             }
         }
         (None, probes)
+    }
+
+    /// The prefix that a bucket is searched for.
+    fn sought(&self, length: u32, address: u32) -> u32 {
+        match self.slip {
+            Some(Slip::WalkSearchLast) => self.walk(address)[31].p,
+            slip if walks(slip) => self.walk(address)[32 - length as usize].p,
+            _ => self.cut(length, address),
+        }
     }
 
     /// Found, hop, length and probes of a lookup as one number.
@@ -819,5 +841,101 @@ impl Table<'_> {
             Some(Slip::RefusedWithOne) if call.units() == 4 => refusal * two_to(48) + 1,
             _ => refusal * two_to(48),
         }
+    }
+}
+
+// ---- The walk ----
+//
+// A second way to the prefixes, which only the slips named `Walk…` go: the right rule cuts each on its own.
+
+/// Whether the walk without a slip comes, at each length from 32 down to 1, to what a cut there gives.
+pub fn walk_agrees(address: u32) -> bool {
+    let t = Settings { a: 3, b: 5, ..T };
+    let table = Table { t, counters: &mut [], slots: &mut [], slip: None };
+    let cuts = (1..=32).rev().map(|length| Stage::cut(&t, length, address));
+    table.walk(address).into_iter().eq(cuts)
+}
+
+/// One length of the walk, with all that is carried down.
+#[derive(Clone, Copy, PartialEq, Eq)]
+struct Stage {
+    length: u32,
+    p: u32,
+    /// Where g starts.
+    start: u64,
+    /// What g grows by.
+    stride: u64,
+    /// The length whose filter is asked.
+    filter: u32,
+}
+
+impl Stage {
+    fn cut(t: &Settings, length: u32, address: u32) -> Stage {
+        let p = prefix(length, address);
+        Stage { length, p, start: product(t.a, p), stride: product(t.b, p), filter: length }
+    }
+}
+
+/// x less y, modulo 2^32.
+fn less(x: u64, y: u64) -> u64 {
+    (x + two_to(32) - y) % two_to(32)
+}
+
+impl Table<'_> {
+    /// The stages from length 32 down to 1.
+    fn walk(&self, address: u32) -> Vec<Stage> {
+        let address = self.or(address, Slip::WalkFrom31, prefix(31, address));
+        let filter = self.or(32, Slip::WalkFilterBelow, 31);
+        let mut stages = vec![Stage { filter, ..Stage::cut(&self.t, 32, address) }];
+        for at in 0..31 {
+            stages.push(self.next(stages[at]));
+        }
+        stages
+    }
+
+    /// One length down the prefix loses one bit, and its products lose what that bit made.
+    fn next(&self, last: Stage) -> Stage {
+        let Settings { a, b, .. } = self.t;
+        let (length, bit) = (last.length - 1, two_to(32 - last.length));
+        let lost = self.lost(last, bit);
+        let start = match self.slip {
+            Some(Slip::WalkProductsLate) => product(a, last.p),
+            Some(Slip::WalkStartLosesA) if lost != 0 => less(last.start, a as u64),
+            Some(Slip::WalkStartLosesAlways) => less(last.start, product(a, bit as u32)),
+            _ => less(last.start, product(a, lost)),
+        };
+        let stride = match self.slip {
+            Some(Slip::WalkProductsLate) => product(b, last.p),
+            Some(Slip::WalkStrideStays) => last.stride,
+            _ => less(last.stride, product(b, lost)),
+        };
+        let filter = match self.slip {
+            Some(Slip::WalkFilterBelow) if last.filter == 1 => 1,
+            Some(Slip::WalkFilterIfSet) if lost == 0 => last.filter,
+            _ => last.filter - 1,
+        };
+        Stage { length, p: less(last.p as u64, lost as u64) as u32, start, stride, filter }
+    }
+
+    /// What the last prefix loses with one bit: the bit, if it was set.
+    fn lost(&self, last: Stage, bit: u64) -> u32 {
+        let held = |bit: u64| last.p as u64 / bit % 2 * bit;
+        let lost = match self.slip {
+            Some(Slip::WalkShortOf1) if last.length == 2 => 0,
+            Some(Slip::WalkBitHigher) => held(2 * bit),
+            Some(Slip::WalkOtherEnd) => held(two_to(31) / bit),
+            Some(Slip::WalkTwoBits) => held(bit) + held(2 * bit),
+            Some(Slip::WalkLowestOne) => held(two_to(last.p.trailing_zeros())),
+            Some(Slip::WalkFlips) if held(bit) == 0 => less(0, bit),
+            Some(Slip::WalkClearsClaimed) if !self.claimed_at(last) => 0,
+            Some(Slip::WalkClearsDenied) if self.claimed_at(last) => 0,
+            _ => held(bit),
+        };
+        lost as u32
+    }
+
+    /// Whether no counter of a stage is zero.
+    fn claimed_at(&self, stage: Stage) -> bool {
+        self.all_count(stage.filter, grown(&self.t, stage.start, stage.stride, self.slip))
     }
 }

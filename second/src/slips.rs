@@ -176,6 +176,23 @@ slips! {
     ProbesZeroForNone: "none has no probes",
     NoneWithLength: "none has length 1",
     LengthOneLess: "the length is given one too low",
+    // The walk down from length 32, on which each prefix is made of the one before it.
+    WalkFrom31: "the walk starts with the last bit cleared: length 32 has the prefix of 31",
+    WalkShortOf1: "the walk's last step clears nothing: length 1 has the prefix of 2",
+    WalkBitHigher: "each step of the walk clears one place too high: the last bit stays",
+    WalkOtherEnd: "the walk clears from the first bit on, not from the last",
+    WalkTwoBits: "each step of the walk clears its bit and the one above it",
+    WalkLowestOne: "each step of the walk clears the lowest one left, wherever it stands",
+    WalkFlips: "each step of the walk turns its bit over, set or not",
+    WalkClearsClaimed: "the walk clears a bit only after a length that the filter claims",
+    WalkClearsDenied: "the walk clears a bit only after a length that the filter denies",
+    WalkProductsLate: "the walk multiplies before it clears: each filter is asked about the last prefix",
+    WalkStartLosesA: "with each bit cleared the start loses A, not A times the bit",
+    WalkStartLosesAlways: "the start loses A times the bit even if the bit was not set",
+    WalkStrideStays: "the start goes down with the walk, but g grows by B times the address",
+    WalkFilterBelow: "the walk asks the filter one length down, as far as there is one",
+    WalkFilterIfSet: "the walk goes on to the next filter only if the bit was set",
+    WalkSearchLast: "buckets are searched for the prefix at which the walk ended",
     // The one 64-bit number.
     RefusalAt40: "the refusal stands at 2^40",
     FoundAt32: "found stands at 2^32",
@@ -353,4 +370,29 @@ pub fn unasked(call: Call, slip: Option<Slip>) -> u64 {
         (Some(Slip::HitsUnasked | Slip::WithdrawStopsAtZero), Call::Withdraw { .. }) => 10,
         _ => 0,
     }
+}
+
+/// Whether a slip bends the walk; the questions then go by it.
+pub fn walks(slip: Option<Slip>) -> bool {
+    matches!(
+        slip,
+        Some(
+            Slip::WalkFrom31
+                | Slip::WalkShortOf1
+                | Slip::WalkBitHigher
+                | Slip::WalkOtherEnd
+                | Slip::WalkTwoBits
+                | Slip::WalkLowestOne
+                | Slip::WalkFlips
+                | Slip::WalkClearsClaimed
+                | Slip::WalkClearsDenied
+                | Slip::WalkProductsLate
+                | Slip::WalkStartLosesA
+                | Slip::WalkStartLosesAlways
+                | Slip::WalkStrideStays
+                | Slip::WalkFilterBelow
+                | Slip::WalkFilterIfSet
+                | Slip::WalkSearchLast
+        )
+    )
 }

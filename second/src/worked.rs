@@ -6,7 +6,7 @@ use crate::library::{Area, Library};
 use crate::pair::Pair;
 use crate::places::{bytes_of, places};
 use crate::routes::Routes;
-use crate::rules::{bucket, counter_at, first_slot, positions, T};
+use crate::rules::{bucket, counter_at, first_slot, positions, walk_agrees, T};
 use crate::told::{told, Answer};
 
 fn address(a: u8, b: u8, c: u8, d: u8) -> u32 {
@@ -227,7 +227,8 @@ pub fn run(library: &mut Library) -> Result<(), String> {
             case.list_gives(lent, &list, refused(2), &list.results)?;
         }
     }
-    stored_again(library)
+    stored_again(library)?;
+    downwards(library)
 }
 
 /// Stored prefixes that are added again.
@@ -296,4 +297,28 @@ fn stored_again(library: &mut Library) -> Result<(), String> {
     case.add(ten, 8, 3, 0)?;
     case.holds(case.pair.word(57) == 4 && case.pair.word(59) == 65_537, "10/8 is added to slot 0")?;
     case.holds(case.pair.counter(112) == 1 && case.pair.counter(113) == 1, "its counters are raised")
+}
+
+/// From length 32 down to length 1.
+fn downwards(library: &mut Library) -> Result<(), String> {
+    let (three, two, zero) = (address(10, 1, 2, 3), address(10, 1, 2, 2), address(10, 1, 2, 0));
+    let mut case = Case::new(library, "W9", T)?;
+    case.add(three, 32, 1, 0)?;
+    case.add(two, 31, 2, 0)?;
+    case.add(0, 1, 3, 0)?;
+    case.vector(three, 3_221_225_473)?;
+    case.vector(two, 3_221_225_473)?;
+    case.vector(address(127, 255, 255, 255), 1)?;
+    case.vector(address(128, 0, 0, 0), 0)?;
+    case.lookup(three, found(1, 32, 1))?;
+    case.lookup(two, found(2, 31, 2))?;
+    case.lookup(zero, found(3, 1, 3))?;
+    case.list(&[zero, two, three], &[[1, 3, 1, 3], [1, 2, 31, 2], [1, 1, 32, 1]])?;
+
+    let one_bit = (0..32).map(|bit| 1 << bit);
+    let spread = (0..100_000).map(|n: u32| n.wrapping_mul(0x9e37_79b1));
+    for address in one_bit.clone().chain(one_bit.map(|bit| !bit)).chain(spread) {
+        case.holds(walk_agrees(address), &format!("the walk from {address:#x} comes to its prefixes"))?;
+    }
+    Ok(())
 }
