@@ -9,18 +9,24 @@
 #   make settings                  measures which settings take how many routes; SEED=1 fixes them
 #   make second                    target/second, the independent program that checks the library and
 #                                  the text program
-#   make soak SECONDS=60           runs it on random histories, or CALLS=10000000; SEED=1 fixes them
+#   make soak SECONDS=60           runs it on random histories, or CALLS=10000000; SEED=1 fixes them. On a
+#                                  machine that is no x86-64 half are on the library compiled for that machine,
+#                                  for testing only, and half on the archive
+#   make memory                    shows under valgrind that the library touches no byte that is not lent;
+#                                  SEED=1 fixes the calls, TABLES=1000 says how many tables they are of
 #   make edits                     runs each wrong edit of code, to show that it is a wrong program
-#   make bench                     the time of lookups and updates beside calls written by hand in C, of
-#                                  lists beside single lookups, and the text program's beside the second
-#                                  program
+#   make bench                     the time of lookups, match vectors and updates beside calls written by
+#                                  hand in C, of lists beside single lookups, and the text program's beside
+#                                  the second program
+#   make bench BEFORE=COMMIT       the time of all calls but change and clear beside those of an earlier
+#                                  commit's library, which is proved and built first
 #   make clean                     removes target/, where all of this is built
 #
 # Needed are the kit's command rt on the PATH (but for make settings and make clean), gcc for all that
-# is C, rustc for second, soak, bench and test, g++ and python3 for test. The first make run or make lib
-# takes two minutes, make test fourteen.
+# is C, rustc for second, soak, bench and test, g++ and python3 for test, valgrind for memory, git for bench
+# with BEFORE. The first make run or make lib takes two or three minutes, make test fourteen to twenty.
 .DEFAULT_GOAL = help
-.PHONY: help test run lib examples install uninstall settings second soak edits bench clean
+.PHONY: help test run lib examples install uninstall settings second soak memory edits bench clean
 
 VERSION := $(shell sed -n 's/^.define GATEWAY_VERSION "\(.*\)"/\1/p' include/gateway.h)
 PREFIX = /usr/local
@@ -74,6 +80,18 @@ uninstall:
 	@$(CHECK_PREFIX)
 	@for file in $(INSTALLED); do rm -f '$(INTO)'/$$file || exit 1; done
 
+# What is measured and checked most: on x86-64 the archive; elsewhere, where that would run under an emulator,
+# an object for the machine at hand, compiled from the module that the archive is compiled from. It is not
+# shipped.
+ifeq ($(shell uname -m),x86_64)
+MEASURED = $(ARCHIVE)
+else
+MEASURED = target/native.o
+endif
+
+target/native.o: $(ARCHIVE) tools/native
+	@tools/native $@
+
 settings: target/settings
 	@target/settings $(SEED)
 
@@ -90,32 +108,62 @@ target/second: $(wildcard second/src/*.rs)
 target/host: second/host.c include/gateway.h $(ARCHIVE)
 	$(CC) $(WARNINGS) $(CFLAGS) -Iinclude -o $@ second/host.c $(ARCHIVE)
 
+# A run of the calls or seconds that are asked, divided by so many.
+SOAK = target/second $(if $(SEED),--seed $(SEED)) $(if $(CALLS),--calls,--seconds) \
+    $$((($(or $(CALLS),$(SECONDS),60) + $(1) - 1) / $(1)))
+
+ifeq ($(MEASURED),$(ARCHIVE))
 soak: second
-	@target/second $(if $(SEED),--seed $(SEED)) $(if $(CALLS),--calls $(CALLS),--seconds $(or $(SECONDS),60))
+	@$(call SOAK,1)
+else
+soak: second target/native-host
+	@echo 'half on the library compiled for this machine, for testing only:'
+	@$(call SOAK,2) --host target/native-host
+	@echo
+	@echo 'half on the archive, which is what is shipped, under an emulator:'
+	@$(call SOAK,2)
+endif
+
+target/native-host: second/host.c include/gateway.h target/native.o
+	$(NATIVE_CC) $(WARNINGS) $(CFLAGS) -Iinclude -o $@ second/host.c target/native.o
+
+# Between blocks of memory there are 4096 bytes that nothing may touch, the most that valgrind keeps.
+memory: target/lent
+	@command -v valgrind >/dev/null || \
+	    { echo "make memory: valgrind is missing: install Debian's package valgrind" >&2; exit 1; }
+	@[ '$(MEASURED)' = '$(ARCHIVE)' ] || echo 'the library as compiled for this machine, for testing only:'
+	@valgrind -q --error-exitcode=1 --redzone-size=4096 target/lent $(or $(SEED),$$(date +%s)) $(or $(TABLES),1000)
+
+target/lent: tests/lent.c bench/table.c bench/table.h bench/calls.h bench/random.h include/gateway.h $(MEASURED)
+	$(NATIVE_CC) $(WARNINGS) -O1 -g -Iinclude -Ibench -o $@ tests/lent.c bench/table.c $(MEASURED)
 
 edits: target/second
 	@tests/edits
 
-# What is measured: on x86-64 the archive; elsewhere, where that would run under an emulator, an object for
-# the machine at hand, compiled from the module that the archive is compiled from. It is not shipped.
-ifeq ($(shell uname -m),x86_64)
-MEASURED = $(ARCHIVE)
-else
-MEASURED = target/native.o
-endif
-
-target/native.o: $(ARCHIVE) tools/native
-	@tools/native $@
-
+# With BEFORE the library is measured beside that of an earlier commit, and else beside plain C.
+ifeq ($(BEFORE),)
 bench: target/bench target/second
 	@$(RT) check routes >&2
 	@[ '$(MEASURED)' = '$(ARCHIVE)' ] || echo 'the library is measured as compiled for this machine, the text program under an emulator'
 	@target/bench
 	@echo
 	@bench/lines
+else
+bench: target/now.o
+	@bench/before '$(BEFORE)' target/before.o
+	@$(NATIVE_CC) $(WARNINGS) -O3 -Iinclude -Ibench -o target/bench-before bench/before.c bench/measure.c \
+	    target/before.o target/now.o
+	@[ '$(MEASURED)' = '$(ARCHIVE)' ] || echo 'both libraries are measured as compiled for this machine'
+	@target/bench-before '$(BEFORE)'
+endif
 
-target/bench: bench/bench.c bench/table.c bench/table.h bench/random.h include/gateway.h $(MEASURED)
-	$(NATIVE_CC) $(WARNINGS) -O3 -Iinclude -Ibench -o $@ bench/bench.c bench/table.c $(MEASURED)
+target/now.o: $(MEASURED) tools/renamed
+	@tools/renamed $(MEASURED) now $@
+
+MEASURING = bench/measure.c bench/measure.h bench/calls.h bench/random.h include/gateway.h
+
+target/bench: bench/bench.c bench/table.c bench/table.h $(MEASURING) $(MEASURED)
+	$(NATIVE_CC) $(WARNINGS) -O3 -Iinclude -Ibench -o $@ bench/bench.c bench/table.c bench/measure.c $(MEASURED)
 
 clean:
 	rm -rf target

@@ -1,4 +1,4 @@
-/* The scheme by hand: as plain and as fast as C allows without changing what is stored. */
+/* The scheme by hand: plain C, made fast without changing what is stored. */
 #include "table.h"
 
 #include <string.h>
@@ -201,27 +201,41 @@ uint64_t hand_change(uint32_t k, uint32_t d, uint32_t e, uint32_t s, uint32_t a,
     return 0;
 }
 
-static inline int claims(const struct settings *t, const uint8_t *counters, uint32_t length,
-                         uint32_t p)
+/* Most filters have zero at their first place, and then need no second multiplication. */
+static inline int claims(const struct settings *t, const uint8_t *filter, uint32_t p)
 {
-    const uint8_t *filter = counters + (((size_t)length - 1) << t->d);
-    uint32_t g = t->a * p, growth = t->b * p;
-    for (uint32_t i = 0; i < t->k; i++) {
+    uint32_t g = t->a * p;
+    if (__builtin_expect(filter[g >> (32 - t->d)] == 0, 1))
+        return 0;
+    uint32_t growth = t->b * p;
+    for (uint32_t i = 1; i < t->k; i++) {
+        g += growth;
         if (filter[g >> (32 - t->d)] == 0)
             return 0;
-        g += growth;
     }
     return 1;
 }
 
-static inline uint32_t vector_of(const struct settings *t, const uint8_t *counters, uint32_t address)
-{
-    uint32_t vector = 0;
-    for (uint32_t length = 1; length <= 32; length++)
-        if (claims(t, counters, length, prefix_of(length, address)))
-            vector |= 1u << (length - 1);
-    return vector;
-}
+/* From length 32 down: the next prefix has one bit less, and the next filter lies just before. Once as a loop,
+   and once unrolled, so that each length's bits are constants. */
+#define VECTOR_OF(name, unroll)                                                                     \
+    static inline uint32_t name(const struct settings *t, const uint8_t *counters, uint32_t address) \
+    {                                                                                               \
+        uint32_t vector = 0, p = address, bit = 1;                                                  \
+        const uint8_t *filter = counters + ((size_t)32 << t->d);                                    \
+        _Pragma(unroll) for (uint32_t length = 32; length > 0; length--)                            \
+        {                                                                                           \
+            filter -= (size_t)1 << t->d;                                                            \
+            if (claims(t, filter, p))                                                               \
+                vector |= 1u << (length - 1);                                                       \
+            p &= ~bit;                                                                              \
+            bit <<= 1;                                                                              \
+        }                                                                                           \
+        return vector;                                                                              \
+    }
+
+VECTOR_OF(vector_of, "GCC unroll 1")
+VECTOR_OF(vector_unrolled, "GCC unroll 32")
 
 /* The mark of the lowest slot that is occupied and holds p, or 0. */
 static inline uint32_t probe(const struct settings *t, const uint8_t *slots, uint32_t length,
@@ -245,6 +259,32 @@ static inline uint64_t default_answer(const uint8_t *slots, size_t slots_bytes, 
     return occupied(mark) ? answer(mark, 0, probes) : probes;
 }
 
+uint64_t hand_match_vector(uint32_t k, uint32_t d, uint32_t e, uint32_t s, uint32_t a, uint32_t b,
+                           uint32_t c, const uint8_t *counters, size_t counters_bytes,
+                           const uint8_t *slots, size_t slots_bytes, uint32_t address)
+{
+    (void)slots;
+    const struct settings t = {k, d, e, s, a, b, c};
+    uint64_t refusal = refuse_bytes(&t, counters_bytes, slots_bytes);
+    return refusal != 0 ? REFUSED(refusal) : vector_of(&t, counters, address);
+}
+
+/* What the buckets of the set bits answer, in slots of the right size. */
+static inline uint64_t lookup(const struct settings *t, const uint8_t *slots, size_t slots_bytes,
+                              uint32_t address, uint32_t vector)
+{
+    uint32_t probes = 0;
+    for (uint32_t left = vector; left != 0;) {
+        uint32_t length = 32 - (uint32_t)__builtin_clz(left);
+        probes++;
+        uint32_t mark = probe(t, slots, length, prefix_of(length, address));
+        if (mark != 0)
+            return answer(mark, length, probes);
+        left ^= 1u << (length - 1);
+    }
+    return default_answer(slots, slots_bytes, probes);
+}
+
 uint64_t hand_lookup(uint32_t k, uint32_t d, uint32_t e, uint32_t s, uint32_t a, uint32_t b,
                      uint32_t c, const uint8_t *counters, size_t counters_bytes,
                      const uint8_t *slots, size_t slots_bytes, uint32_t address)
@@ -253,16 +293,39 @@ uint64_t hand_lookup(uint32_t k, uint32_t d, uint32_t e, uint32_t s, uint32_t a,
     uint64_t refusal = refuse_bytes(&t, counters_bytes, slots_bytes);
     if (refusal != 0)
         return REFUSED(refusal);
-    uint32_t vector = vector_of(&t, counters, address), probes = 0;
-    for (uint32_t left = vector; left != 0;) {
-        uint32_t length = 32 - (uint32_t)__builtin_clz(left);
-        probes++;
-        uint32_t mark = probe(&t, slots, length, prefix_of(length, address));
-        if (mark != 0)
-            return answer(mark, length, probes);
-        left ^= 1u << (length - 1);
+    return lookup(&t, slots, slots_bytes, address, vector_of(&t, counters, address));
+}
+
+uint64_t hand_lookup_unrolled(uint32_t k, uint32_t d, uint32_t e, uint32_t s, uint32_t a, uint32_t b,
+                              uint32_t c, const uint8_t *counters, size_t counters_bytes,
+                              const uint8_t *slots, size_t slots_bytes, uint32_t address)
+{
+    const struct settings t = {k, d, e, s, a, b, c};
+    uint64_t refusal = refuse_bytes(&t, counters_bytes, slots_bytes);
+    if (refusal != 0)
+        return REFUSED(refusal);
+    return lookup(&t, slots, slots_bytes, address, vector_unrolled(&t, counters, address));
+}
+
+uint64_t hand_lookup_list(uint32_t k, uint32_t d, uint32_t e, uint32_t s, uint32_t a, uint32_t b,
+                          uint32_t c, const uint8_t *counters, size_t counters_bytes,
+                          const uint8_t *slots, size_t slots_bytes, const uint8_t *addresses,
+                          size_t addresses_bytes, uint8_t *results, size_t results_bytes)
+{
+    const struct settings t = {k, d, e, s, a, b, c};
+    uint64_t refusal = refuse_bytes(&t, counters_bytes, slots_bytes);
+    if (refusal != 0)
+        return REFUSED(refusal);
+    if (addresses_bytes % 4 != 0 || results_bytes % 4 != 0 || results_bytes / 4 != addresses_bytes)
+        return REFUSED(18);
+    for (size_t i = 0; i < addresses_bytes / 4; i++) {
+        uint32_t address = word(addresses, i);
+        uint64_t given = lookup(&t, slots, slots_bytes, address, vector_of(&t, counters, address));
+        const uint32_t result[4] = {(uint32_t)(given >> 40), (uint32_t)(given >> 16) & 0xffff,
+                                    (uint32_t)(given >> 8) & 0xff, (uint32_t)given & 0xff};
+        memcpy(results + 16 * i, result, sizeof result);
     }
-    return default_answer(slots, slots_bytes, probes);
+    return 0;
 }
 
 uint64_t hand_lookup_in_turn(uint32_t k, uint32_t d, uint32_t e, uint32_t s, uint32_t a, uint32_t b,
@@ -273,15 +336,18 @@ uint64_t hand_lookup_in_turn(uint32_t k, uint32_t d, uint32_t e, uint32_t s, uin
     uint64_t refusal = refuse_bytes(&t, counters_bytes, slots_bytes);
     if (refusal != 0)
         return REFUSED(refusal);
-    uint32_t probes = 0;
+    uint32_t probes = 0, p = address, bit = 1;
+    const uint8_t *filter = counters + ((size_t)32 << d);
     for (uint32_t length = 32; length > 0; length--) {
-        uint32_t p = prefix_of(length, address);
-        if (!claims(&t, counters, length, p))
-            continue;
-        probes++;
-        uint32_t mark = probe(&t, slots, length, p);
-        if (mark != 0)
-            return answer(mark, length, probes);
+        filter -= (size_t)1 << d;
+        if (claims(&t, filter, p)) {
+            probes++;
+            uint32_t mark = probe(&t, slots, length, p);
+            if (mark != 0)
+                return answer(mark, length, probes);
+        }
+        p &= ~bit;
+        bit <<= 1;
     }
     return default_answer(slots, slots_bytes, probes);
 }

@@ -26,7 +26,21 @@ uint64_t hand_lookup(uint32_t k, uint32_t d, uint32_t e, uint32_t s, uint32_t a,
                      uint32_t c, const uint8_t *counters, size_t counters_bytes,
                      const uint8_t *slots, size_t slots_bytes, uint32_t address);
 
-/* The same answers, but a length's filter is asked only when the search gets there. */
+/* The same, with the loop over the lengths unrolled. */
+uint64_t hand_lookup_unrolled(uint32_t k, uint32_t d, uint32_t e, uint32_t s, uint32_t a, uint32_t b,
+                              uint32_t c, const uint8_t *counters, size_t counters_bytes,
+                              const uint8_t *slots, size_t slots_bytes, uint32_t address);
+
+uint64_t hand_match_vector(uint32_t k, uint32_t d, uint32_t e, uint32_t s, uint32_t a, uint32_t b,
+                           uint32_t c, const uint8_t *counters, size_t counters_bytes,
+                           const uint8_t *slots, size_t slots_bytes, uint32_t address);
+
+uint64_t hand_lookup_list(uint32_t k, uint32_t d, uint32_t e, uint32_t s, uint32_t a, uint32_t b,
+                          uint32_t c, const uint8_t *counters, size_t counters_bytes,
+                          const uint8_t *slots, size_t slots_bytes, const uint8_t *addresses,
+                          size_t addresses_bytes, uint8_t *results, size_t results_bytes);
+
+/* The same answers as of hand_lookup, but a length's filter is asked only when the search gets there. */
 uint64_t hand_lookup_in_turn(uint32_t k, uint32_t d, uint32_t e, uint32_t s, uint32_t a, uint32_t b,
                              uint32_t c, const uint8_t *counters, size_t counters_bytes,
                              const uint8_t *slots, size_t slots_bytes, uint32_t address);

@@ -39,6 +39,7 @@ use history::Manner;
 use library::Library;
 use slips::SLIPS;
 use std::io;
+use std::path::PathBuf;
 use std::process::ExitCode;
 use std::time::{Duration, Instant, SystemTime, UNIX_EPOCH};
 use tally::Tally;
@@ -56,7 +57,8 @@ usage: second [--seed N] [--calls N | --seconds N]   random histories, 500000 ca
        second --mix N [--seed N]                     writes so many lines for it, most of them readable
 
 After --lines, '-- COMMAND [WORD..]' names what starts the text program; it is tests/start with
-target/bin/routes unless told.";
+target/bin/routes unless told. Without --lines, '--host PATH' names the program that is linked with the
+library; it is the host beside this one unless told.";
 
 /// How many lines are compared unless told.
 const LINES: u64 = 6000;
@@ -82,6 +84,7 @@ struct Options {
     lines: bool,
     answer: bool,
     cut: Option<String>,
+    host: Option<String>,
     command: Option<Vec<String>>,
 }
 
@@ -107,6 +110,10 @@ fn options() -> Result<Options, String> {
             }
             "--cut" => {
                 options.cut = Some(words.next().ok_or("--cut needs a file")?);
+                continue;
+            }
+            "--host" => {
+                options.host = Some(words.next().ok_or("--host needs a program")?);
                 continue;
             }
             "--" => {
@@ -177,7 +184,7 @@ fn compare_lines(seed: u64, options: Options) -> bool {
 }
 
 fn compare_calls(seed: u64, options: Options) -> bool {
-    let mut library = match start() {
+    let mut library = match start(options.host.as_deref()) {
         Ok(library) => library,
         Err(error) => {
             eprintln!("second: the library's process does not start: {error}; build it by 'make second'");
@@ -196,9 +203,10 @@ fn clock() -> u64 {
     now.map_or(1, |since| since.as_micros() as u64)
 }
 
-/// The program `host` stands beside this one. Ctrl-C is for this one alone.
-fn start() -> io::Result<Library> {
-    let host = std::env::current_exe()?.with_file_name("host");
+/// The program `host` stands beside this one, unless another is named. Ctrl-C is for this one alone.
+fn start(named: Option<&str>) -> io::Result<Library> {
+    let beside = std::env::current_exe()?.with_file_name("host");
+    let host = named.map_or(beside, PathBuf::from);
     interrupt::ignored(|| Library::start(&host))
 }
 
@@ -215,7 +223,11 @@ fn holds(library: &mut Library, seed: u64, history: u64, show: bool, tally: &mut
 
 fn replay_command(seed: u64, history: u64) -> String {
     let program = std::env::args().next().unwrap_or("second".to_string());
-    format!("replay: {program} --show --seed {seed} --history {history}")
+    let host = options()
+        .ok()
+        .and_then(|options| options.host)
+        .map_or(String::new(), |host| format!(" --host {host}"));
+    format!("replay: {program} --show --seed {seed} --history {history}{host}")
 }
 
 /// Says which history ran when this program itself panics.

@@ -1,0 +1,119 @@
+/*
+ * Measures the library beside that of an earlier commit: the same calls on the same tables, in turns within one
+ * run. The earlier one's functions are called before_lookup and so on, this one's now_lookup. Every answer of
+ * the two is compared, and after updates every byte. Who goes first changes from round to round, and who has
+ * which memory.
+ *
+ *     before NAME
+ */
+#include "measure.h"
+
+#include <stdio.h>
+#include <string.h>
+
+#define LIBRARY(word)                                                                              \
+    extern __typeof__(gateway_clear) word##_clear;                                                 \
+    extern __typeof__(gateway_add) word##_add;                                                     \
+    extern __typeof__(gateway_withdraw) word##_withdraw;                                           \
+    extern __typeof__(gateway_change) word##_change;                                               \
+    extern __typeof__(gateway_lookup) word##_lookup, word##_match_vector;                          \
+    extern __typeof__(gateway_lookup_list) word##_lookup_list;                                     \
+    static const struct calls word = CALLS_OF(word)
+
+LIBRARY(before);
+LIBRARY(now);
+
+enum { BOTH = 2 };
+
+/* Both in turns within a round: i counts them, one is which. */
+#define IN_TURNS(i, one) for (int i = 0, one = round % BOTH; i < BOTH; i++, one = !one)
+
+static const struct calls *const libraries[BOTH] = {&before, &now};
+static answers given[BOTH];
+static results listed[BOTH];
+
+static void print_times(const struct table *t, uint32_t many, const char *what, const double ns[BOTH])
+{
+    print_table(t, many);
+    printf("  %-22s  %9.1f  %6.1f  %5.2f\n", what, ns[0], ns[1], ns[1] / ns[0]);
+}
+
+static void check_answers(size_t many, const char *what)
+{
+    check(memcmp(given[0], given[1], many * sizeof given[0][0]) == 0, what);
+}
+
+static void measure_questions(const struct table *t)
+{
+    struct memory memory[BOTH] = {lend_table(t), lend_table(t)};
+    uint32_t many = fill(t, &before, &memory[0], &now, &memory[1]);
+
+    double lookup[BOTH] = {0}, vector[BOTH] = {0}, short_list[BOTH] = {0}, long_list[BOTH] = {0};
+    for (int round = 0; round < ROUNDS; round++) {
+        const struct memory *m = &memory[round % BOTH];
+        IN_TURNS (i, one)
+            ask_each(&vector[one], t, m, libraries[one]->match_vector, given[one]);
+        check_answers(ADDRESSES, "a match vector");
+        IN_TURNS (i, one)
+            ask_each(&lookup[one], t, m, libraries[one]->lookup, given[one]);
+        check_answers(ADDRESSES, "a lookup");
+        IN_TURNS (i, one)
+            ask_lists(&short_list[one], t, m, libraries[one]->lookup_list, SHORT_LIST, listed[one]);
+        check_results(listed[0], given[0]);
+        check_results(listed[1], given[0]);
+        IN_TURNS (i, one)
+            ask_lists(&long_list[one], t, m, libraries[one]->lookup_list, LONG_LIST, listed[one]);
+        check_results(listed[0], given[0]);
+        check_results(listed[1], given[0]);
+    }
+    print_times(t, many, "lookup", lookup);
+    print_times(t, many, "match vector", vector);
+    print_times(t, many, "short list", short_list);
+    print_times(t, many, "long list", long_list);
+    take_back(&memory[0]);
+    take_back(&memory[1]);
+}
+
+static void measure_updates(const struct table *t)
+{
+    struct memory memory[BOTH] = {lend_table(t), lend_table(t)};
+    uint32_t many = fill(t, &before, &memory[0], &now, &memory[1]);
+
+    double again[BOTH] = {0}, replaced[BOTH] = {0};
+    for (int round = 0; round < ROUNDS; round++) {
+        IN_TURNS (i, one)
+            withdraw_and_add(&again[one], t, &memory[i], libraries[one], given[one]);
+        check_answers(2 * TURNS, "an update");
+        IN_TURNS (i, one)
+            replace(&replaced[one], t, &memory[i], libraries[one], given[one]);
+        check_answers(TURNS, "an update");
+        check_memory(&memory[0], &memory[1]);
+    }
+    print_times(t, many, "withdrawn, added again", again);
+    print_times(t, many, "replaced", replaced);
+    take_back(&memory[0]);
+    take_back(&memory[1]);
+}
+
+int main(int argc, char **argv)
+{
+    if (argc != 2) {
+        fprintf(stderr, "usage: before NAME; make bench BEFORE=COMMIT runs it\n");
+        return 2;
+    }
+    printf("before: the library of %s; now: that of the tree as it stands; ratio: now over before\n", argv[1]);
+    printf("nanoseconds to a call, or to an address of a list, best of %d rounds over %d addresses or %d routes\n",
+           ROUNDS, ADDRESSES, TURNS);
+    printf("offered, stored: routes; short and long: lists of %d and of %d\n\n", SHORT_LIST, LONG_LIST);
+    printf("offered  stored  K  D E S                          before ns  now ns  ratio\n");
+    for (int i = 0; i < TABLES; i++) {
+        measure_questions(&asked[i]);
+        fflush(stdout);
+    }
+    for (int i = 0; i < TABLES; i++) {
+        measure_updates(&updated[i]);
+        fflush(stdout);
+    }
+    printf("\nevery answer agrees, and every byte\n");
+    return 0;
+}

@@ -1,0 +1,23 @@
+/* The seven calls of a library, or by hand, so that a program can make the same call of two of them. */
+#ifndef CALLS_H
+#define CALLS_H
+
+#include <gateway.h>
+
+struct calls {
+    __typeof__(gateway_clear) *clear;
+    __typeof__(gateway_add) *add;
+    __typeof__(gateway_withdraw) *withdraw;
+    __typeof__(gateway_change) *change;
+    __typeof__(gateway_lookup) *lookup, *match_vector;
+    __typeof__(gateway_lookup_list) *lookup_list;
+};
+
+/* Those whose names begin with a word. */
+#define CALLS_OF(word)                                                                             \
+    {                                                                                              \
+        word##_clear, word##_add, word##_withdraw, word##_change, word##_lookup, word##_match_vector, \
+            word##_lookup_list                                                                     \
+    }
+
+#endif

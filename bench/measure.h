@@ -1,0 +1,60 @@
+/*
+ * What the programs that measure share: the calls of two are given the same routes and addresses, which a seed
+ * fixes, on memory of the same contents, and their answers are compared.
+ */
+#ifndef MEASURE_H
+#define MEASURE_H
+
+#include "calls.h"
+
+#include <stddef.h>
+#include <stdint.h>
+
+enum { ADDRESSES = 1000000, TURNS = 100000, ROUNDS = 9, TABLES = 3, SHORT_LIST = 64, LONG_LIST = 1000 };
+
+/* So many routes are offered, and what the buckets have room for is stored. */
+struct table {
+    uint32_t routes, k, d, e, s;
+};
+
+struct memory {
+    uint8_t *counters;
+    uint32_t *slots;
+    size_t bytes, words;
+};
+
+/* The tables that are asked, and those that are updated. */
+extern const struct table asked[TABLES], updated[TABLES];
+
+/* What the measured calls answer. */
+typedef uint64_t answers[ADDRESSES];
+typedef struct gateway_result results[ADDRESSES];
+
+struct memory lend_table(const struct table *t);
+void take_back(const struct memory *m);
+
+/* Fills two tables by the calls of each, and chooses the addresses and the updates that are then measured;
+   answers how many routes are stored. */
+uint32_t fill(const struct table *t, const struct calls *one, const struct memory *first, const struct calls *other,
+              const struct memory *second);
+
+/* These keep the best nanoseconds a call so far, in *best: all addresses by single calls; all of them by lists
+   of so many, which must divide them, to an address; each route withdrawn and added again; and each added with
+   another hop than it has. */
+void ask_each(double *best, const struct table *t, const struct memory *m, __typeof__(gateway_lookup) *call,
+              answers given);
+void ask_lists(double *best, const struct table *t, const struct memory *m,
+               __typeof__(gateway_lookup_list) *call, size_t many, results given);
+void withdraw_and_add(double *best, const struct table *t, const struct memory *m, const struct calls *calls,
+                      answers given);
+void replace(double *best, const struct table *t, const struct memory *m, const struct calls *calls,
+             answers given);
+
+/* End the program where two that should agree do not. */
+void check(int agrees, const char *what);
+void check_memory(const struct memory *one, const struct memory *other);
+void check_results(const results listed, const answers single);
+
+void print_table(const struct table *t, uint32_t many);
+
+#endif

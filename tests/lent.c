@@ -1,0 +1,365 @@
+/*
+ * Makes random calls of the library on memory of which each list is a block of its own, of exactly the size
+ * that is told, and compares answers and memory with the scheme by hand. Under valgrind ('make memory') a byte
+ * that is touched outside of what is lent shows, and so does an answer that hangs on a byte that was not
+ * written: blocks that a call has no need to look at are not.
+ *
+ *     lent SEED TABLES
+ */
+#include "calls.h"
+#include "random.h"
+#include "table.h"
+
+#include <stdio.h>
+#include <stdlib.h>
+#include <string.h>
+
+enum kind { CLEAR, ADD, WITHDRAW, CHANGE, VECTOR, LOOKUP, LIST, KINDS };
+
+static const char *const names[KINDS] = {"clear", "add", "withdraw", "change", "match vector", "lookup", "list"};
+
+static const struct calls library = CALLS_OF(gateway), hand = CALLS_OF(hand);
+
+/* A list that is lent: so many bytes, which end with their block and may begin after its start. */
+struct list {
+    uint8_t *block, *at;
+    size_t size;
+};
+
+struct call {
+    enum kind kind;
+    uint32_t k, d, e, s, a, b, c;
+    uint32_t asked, length, hop;
+};
+
+/* What one of the two is lent. An update is told of words of slots, a question of bytes. */
+struct lent {
+    struct list counters, slots, addresses, results;
+};
+
+enum { ROUTES = 24, MOST_NUMBERS = 19, SMALL = 1 << 14 };
+
+static uint64_t given[KINDS][MOST_NUMBERS];
+static unsigned long long seed;
+static unsigned long table;
+
+static int one_in(uint32_t n)
+{
+    return random_below(n) == 0;
+}
+
+/* Nothing is written to what is lent. */
+static struct list lend(size_t size, size_t offset)
+{
+    if (size == 0 && one_in(2))
+        return (struct list){NULL, NULL, 0};
+    uint8_t *block = malloc(offset + size);
+    if (block == NULL) {
+        fprintf(stderr, "lent: no memory\n");
+        exit(2);
+    }
+    return (struct list){block, block + offset, size};
+}
+
+static void fill(const struct list *list)
+{
+    for (size_t i = 0; i < list->size; i++)
+        list->at[i] = (uint8_t)(one_in(2) ? 0 : random_word());
+}
+
+static struct list copy(const struct list *list, size_t offset)
+{
+    struct list other = lend(list->size, offset);
+    if (list->size != 0)
+        memcpy(other.at, list->at, list->size);
+    return other;
+}
+
+static void check(int agrees, const struct call *c, const char *what)
+{
+    if (agrees)
+        return;
+    printf("lent: under seed %llu, table %lu, %s with K %u, D %u, E %u, S %u: the %s differs\n", seed, table,
+           names[c->kind], (unsigned)c->k, (unsigned)c->d, (unsigned)c->e, (unsigned)c->s, what);
+    exit(1);
+}
+
+static void check_lists(const struct list *one, const struct list *other, const struct call *c, const char *what)
+{
+    check(one->size == 0 || memcmp(one->at, other->at, one->size) == 0, c, what);
+}
+
+#define SETTINGS c->k, c->d, c->e, c->s, c->a, c->b, c->c
+#define WORDS SETTINGS, m->counters.at, m->counters.size, (uint32_t *)(void *)m->slots.at, m->slots.size / 4
+#define BYTES SETTINGS, m->counters.at, m->counters.size, m->slots.at, m->slots.size
+
+static uint64_t answer(const struct calls *calls, const struct call *c, const struct lent *m)
+{
+    switch (c->kind) {
+    case CLEAR: return calls->clear(WORDS);
+    case ADD: return calls->add(WORDS, c->asked, c->length, c->hop);
+    case WITHDRAW: return calls->withdraw(WORDS, c->asked, c->length);
+    case CHANGE: return calls->change(WORDS, c->asked, c->length, c->hop);
+    case VECTOR: return calls->match_vector(BYTES, c->asked);
+    case LOOKUP: return calls->lookup(BYTES, c->asked);
+    default:
+        return calls->lookup_list(BYTES, m->addresses.at, m->addresses.size, m->results.at, m->results.size);
+    }
+}
+
+static int asks(const struct call *c)
+{
+    return c->kind == VECTOR || c->kind == LOOKUP || c->kind == LIST;
+}
+
+/* One in so many is wrong, by a little or altogether. */
+static size_t perhaps_wrong(size_t size, uint32_t one_in_so_many)
+{
+    if (!one_in(one_in_so_many))
+        return size;
+    switch (random_below(4)) {
+    case 0: return 0;
+    case 1: return size + 1 + random_below(4);
+    case 2: return size - (size < 4 ? size : 1 + random_below(4));
+    default: return random_below(2048);
+    }
+}
+
+/* Addresses within the routes and elsewhere, and results that may hold anything. */
+static void lend_lists(struct lent *by_hand, struct lent *m, const struct call routes[ROUTES])
+{
+    size_t many = one_in(4) ? random_below(2) : one_in(16) ? random_below(200) : random_below(12);
+    size_t bytes = perhaps_wrong(4 * many, 6);
+    by_hand->addresses = lend(bytes, 0);
+    fill(&by_hand->addresses);
+    for (size_t i = 0; i + 4 <= bytes; i += 4) {
+        uint32_t address = routes[random_below(ROUTES)].asked | random_word() >> random_below(32);
+        if (one_in(2))
+            memcpy(by_hand->addresses.at + i, &address, 4);
+    }
+    by_hand->results = lend(perhaps_wrong(4 * bytes, 6), 0);
+    fill(&by_hand->results);
+    m->addresses = copy(&by_hand->addresses, random_below(4));
+    m->results = copy(&by_hand->results, random_below(4));
+}
+
+static void take_back(const struct list *list)
+{
+    free(list->block);
+}
+
+/* Makes a call of both. What by_hand is lent holds the same, but that m may lack what no answer needs. */
+static void compare(const struct call *c, const struct lent *by_hand, struct lent *m)
+{
+    uint64_t ours = answer(&hand, c, by_hand);
+    if (c->kind == LIST && ours == 0 && m->results.size != 0) {
+        /* An accepted list writes each byte of its results, so none need be written before. */
+        size_t offset = (size_t)(m->results.at - m->results.block);
+        take_back(&m->results);
+        m->results = lend(by_hand->results.size, offset);
+    }
+    uint64_t theirs = answer(&library, c, m);
+    check(theirs == ours, c, "answer");
+    check(gateway_refusal(ours) < MOST_NUMBERS, c, "number");
+    given[c->kind][gateway_refusal(ours)]++;
+    if (c->kind == LIST) {
+        check_lists(&m->addresses, &by_hand->addresses, c, "list of addresses");
+        check_lists(&m->results, &by_hand->results, c, "list of results");
+    }
+}
+
+static uint32_t random_multiplier(void)
+{
+    static const uint32_t some[] = {0, 1, 2, GATEWAY_GOOD_A, GATEWAY_GOOD_B, GATEWAY_GOOD_C, 0x80000000, 0xffffffff};
+    return one_in(3) ? random_word() : some[random_below(sizeof some / sizeof some[0])];
+}
+
+/* From least to most, often one of the two. */
+static uint32_t random_setting(uint32_t least, uint32_t most)
+{
+    if (one_in(3))
+        return least;
+    return one_in(8) ? most : least + random_below(most - least + 1);
+}
+
+static void random_route(struct call *c)
+{
+    c->length = one_in(8) ? 0 : one_in(40) ? 33 + random_below(4) : 1 + random_below(one_in(2) ? 3 : 32);
+    c->asked = c->length == 0 || c->length > 32 ? 0 : random_word() & 0xffffffffu << (32 - c->length);
+    if (one_in(30))
+        c->asked ^= random_word() >> random_below(32);
+}
+
+/* A call of memory of its own, with settings or sizes that most often are wrong. */
+static void call_wrongly(struct call c, const struct call routes[ROUTES])
+{
+    uint32_t *const settings[] = {&c.k, &c.d, &c.e, &c.s};
+    if (one_in(2))
+        *settings[random_below(4)] = one_in(2) ? random_below(16) : random_word();
+    size_t bytes = perhaps_wrong(gateway_counters_bytes(c.d), 2);
+    size_t size = perhaps_wrong(gateway_slots_bytes(c.e, c.s), 2);
+    if (!asks(&c))
+        size -= size % 4;
+    struct lent by_hand = {.counters = lend(bytes, 0), .slots = lend(size, 0)}, m = {.counters = {0}};
+    fill(&by_hand.counters);
+    fill(&by_hand.slots);
+    uint32_t refusal = gateway_refusal(hand.match_vector(c.k, c.d, c.e, c.s, c.a, c.b, c.c, by_hand.counters.at, bytes,
+                                                         by_hand.slots.at, size, 0));
+    if (refusal != GATEWAY_OK) {
+        /* What is refused for its settings or sizes is refused whatever the memory holds. */
+        m.counters = lend(bytes, 0);
+        m.slots = lend(size, asks(&c) ? random_below(4) : 0);
+    } else {
+        m.counters = copy(&by_hand.counters, 0);
+        m.slots = copy(&by_hand.slots, asks(&c) ? random_below(4) : 0);
+    }
+    if (c.kind == LIST)
+        lend_lists(&by_hand, &m, routes);
+    compare(&c, &by_hand, &m);
+    if (refusal == GATEWAY_OK) {
+        check_lists(&m.counters, &by_hand.counters, &c, "memory of the counters");
+        check_lists(&m.slots, &by_hand.slots, &c, "memory of the slots");
+    }
+    const struct list *const all[] = {&by_hand.counters, &by_hand.slots, &by_hand.addresses, &by_hand.results,
+                                      &m.counters,       &m.slots,       &m.addresses,       &m.results};
+    for (size_t i = 0; i < sizeof all / sizeof all[0]; i++)
+        take_back(all[i]);
+}
+
+/* A call of a table. The library gets blocks of their own for lists, for slots that begin at an odd address,
+   and for what the call has no need of, to which nothing was written. */
+static void call_rightly(const struct call *c, struct lent by_hand, struct lent m, const struct call routes[ROUTES])
+{
+    const struct list none = {NULL, NULL, 0};
+    struct list own = none;
+    int small = m.slots.size < SMALL || one_in(16);
+    by_hand.addresses = by_hand.results = m.addresses = m.results = none;
+    if (c->kind == VECTOR && one_in(2))
+        m.slots = own = lend(m.slots.size, random_below(4));
+    else if (c->kind == CHANGE && one_in(2))
+        m.counters = own = lend(m.counters.size, 0);
+    else if (asks(c) && small && one_in(2))
+        m.slots = own = copy(&m.slots, random_below(4));
+    if (c->kind == LIST)
+        lend_lists(&by_hand, &m, routes);
+    compare(c, &by_hand, &m);
+    if (!asks(c) && small) {
+        if (own.block == NULL)
+            check_lists(&m.counters, &by_hand.counters, c, "memory of the counters");
+        check_lists(&m.slots, &by_hand.slots, c, "memory of the slots");
+    }
+    take_back(&own);
+    take_back(&by_hand.addresses);
+    take_back(&by_hand.results);
+    take_back(&m.addresses);
+    take_back(&m.results);
+}
+
+/* Which calls are made how often. */
+static enum kind random_kind(void)
+{
+    static const enum kind kinds[] = {ADD, ADD, ADD, ADD, WITHDRAW, WITHDRAW, CHANGE, VECTOR, LOOKUP, LOOKUP, LIST};
+    return one_in(50) ? CLEAR : kinds[random_below(sizeof kinds / sizeof kinds[0])];
+}
+
+/* Puts anything into the counters of both. */
+static void damage(const struct lent *by_hand, const struct lent *m)
+{
+    fill(&by_hand->counters);
+    memcpy(m->counters.at, by_hand->counters.at, m->counters.size);
+}
+
+/* A table, cleared or with anything in it, and what is then asked of it. Most are small, since they are quick. */
+static void run_table(void)
+{
+    const int large = one_in(6);
+    struct call c = {CLEAR, random_setting(1, 8), random_setting(4, large ? 11 : 6), random_setting(0, large ? 8 : 3),
+                     random_setting(1, 8), random_multiplier(), random_multiplier(), random_multiplier(), 0, 0, 0};
+    struct call routes[ROUTES];
+    struct lent by_hand = {.counters = lend(gateway_counters_bytes(c.d), 0),
+                           .slots = lend(gateway_slots_bytes(c.e, c.s), 0)};
+    struct lent m = by_hand;
+    for (size_t i = 0; i < ROUTES; i++)
+        random_route(&routes[i]);
+    if (one_in(4)) {
+        fill(&by_hand.counters);
+        fill(&by_hand.slots);
+        m.counters = copy(&by_hand.counters, 0);
+        m.slots = copy(&by_hand.slots, 0);
+    } else {
+        m.counters = lend(by_hand.counters.size, 0);
+        m.slots = lend(by_hand.slots.size, 0);
+        compare(&c, &by_hand, &m);
+    }
+    for (int i = 0; i < 100; i++) {
+        const struct call *route = &routes[random_below(ROUTES)];
+        c.kind = random_kind();
+        c.asked = route->asked;
+        c.length = route->length;
+        c.hop = one_in(20) ? random_word() : random_below(65536);
+        if (asks(&c))
+            c.asked |= random_word() >> random_below(32);
+        if (!large && one_in(100))
+            damage(&by_hand, &m);
+        if (one_in(8))
+            call_wrongly(c, routes);
+        else
+            call_rightly(&c, by_hand, m, routes);
+    }
+    check_lists(&m.counters, &by_hand.counters, &c, "memory of the counters");
+    check_lists(&m.slots, &by_hand.slots, &c, "memory of the slots");
+    take_back(&by_hand.counters);
+    take_back(&by_hand.slots);
+    take_back(&m.counters);
+    take_back(&m.slots);
+}
+
+/* Says what was met, and ends in failure where a number was not. */
+static int tell(void)
+{
+    static const int numbers[] = {0, 1, 2, 3, 4, 5, 7, 8, 9, 10, 18};
+    int narrow = 0;
+    uint64_t calls = 0;
+    for (size_t i = 0; i < sizeof numbers / sizeof numbers[0]; i++) {
+        uint64_t times = 0;
+        for (int kind = 0; kind < KINDS; kind++)
+            times += given[kind][numbers[i]];
+        printf("  %s %d: %llu\n", numbers[i] == 0 ? "accepted," : "refused with", numbers[i],
+               (unsigned long long)times);
+        narrow |= times == 0;
+        calls += times;
+    }
+    for (int kind = 0; kind < KINDS; kind++)
+        narrow |= given[kind][0] == 0 || given[kind][1] == 0 || given[kind][2] == 0;
+    printf("%llu calls on %lu tables, every answer and byte agrees\n", (unsigned long long)calls, table);
+    if (narrow)
+        printf("lent: too narrow a run: a call was never accepted, or a number never given\n");
+    return narrow;
+}
+
+/* A whole number, or the program ends. */
+static unsigned long long number(const char *word)
+{
+    char *end;
+    unsigned long long n = strtoull(word, &end, 10);
+    if (word[0] < '0' || word[0] > '9' || *end != '\0') {
+        fprintf(stderr, "lent: not a number: '%s'\n", word);
+        exit(2);
+    }
+    return n;
+}
+
+int main(int argc, char **argv)
+{
+    if (argc != 3) {
+        fprintf(stderr, "usage: lent SEED TABLES; make memory runs it\n");
+        return 2;
+    }
+    seed = random_state = number(argv[1]);
+    const unsigned long tables = (unsigned long)number(argv[2]);
+    printf("seed %llu\n", seed);
+    fflush(stdout);
+    for (table = 0; table < tables; table++)
+        run_table();
+    return tell();
+}
