@@ -2,7 +2,7 @@
 ghost use mathlib.Core.Path.{_≡_};
 ghost use mathlib.Core.Bool.{false};
 ghost use Prim.Native.Nat.{_+_, _*_, _%_, _^_, _≤_};
-ghost use Rattle.rules.specs.Table.{wrap, filter-start, claims, step-each};
+ghost use Rattle.rules.specs.Table.{wrap, filter-bits, filter-start, claims, step-each};
 ghost use Rattle.rules.specs.Ready.{Ready, Counters};
 ghost use Rattle.filters.specs.Visits.{Placed, PlacesOf, Whole, Inside, Hits, k-places, cannot, stepped, some-cannot};
 use hashes::product;
@@ -26,12 +26,21 @@ fn start_of(settings: Settings, length: u32) -> usize
     ((length - 1) as usize) << (settings.d as usize)
 }
 
-// Where the counter of a length that g numbers lies.
-fn place_of(settings: Settings, length: u32, g: u32) -> usize
+// How many counters the filter of a length has.
+pub fn filter_size(settings: Settings, length: u32) -> usize
     requires { ⌜ Ready settings length ⌝ }
+    ensures { λ r. ⌜ r ≡ 2 ^ filter-bits settings length ⌝ }
+{
+    1 << (settings.d as usize)
+}
+
+// Where the counter that g numbers lies, in the filter of a length that begins at start.
+fn place_of(settings: Settings, length: u32, start: usize, g: u32) -> usize
+    requires { ⌜ Ready settings length ⌝ }
+    requires { ⌜ start ≡ filter-start settings length ⌝ }
     ensures { λ r. ⌜ Placed settings length g r ⌝ }
 {
-    start_of(settings, length) + top_bits(g, settings.d) as usize
+    start + top_bits(g, settings.d) as usize
 }
 
 // What g grows by at each step of a prefix.
@@ -48,17 +57,18 @@ fn grow(g: u32, growth: u32) -> u32
     std::num::wrapping_add_u32(g, growth)
 }
 
-// Whether the filter of a length claims a prefix: all its K counters are nonzero.
-pub fn claims_prefix(settings: Settings, counters: &[u8], p: u32, length: u32) -> bool
+// Whether the filter of a length, which begins at start, claims a prefix: all its K counters are nonzero.
+pub fn claims_prefix(settings: Settings, counters: &[u8], p: u32, length: u32, start: usize) -> bool
     requires { ⌜ Ready settings length ⌝ }
     requires { ⌜ Counters settings (now counters) ⌝ }
+    requires { ⌜ start ≡ filter-start settings length ⌝ }
     ensures { λ r. ⌜ r ≡ claims settings (now (counters .entry)) length p ⌝ }
 {
     let growth = growth_of(settings, p);
     let mut g = product(settings.a, p);
     let mut claimed = true;
     for _ in 0..settings.k {
-        let place = place_of(settings, length, g);
+        let place = place_of(settings, length, start, g);
         if counters[place] == 0 {
             claimed = false;
             break;
@@ -73,11 +83,12 @@ pub fn places_of(settings: Settings, p: u32, length: u32) -> Places
     requires { ⌜ Ready settings length ⌝ }
     ensures { λ r. ⌜ PlacesOf settings length p r ⌝ }
 {
+    let start = start_of(settings, length);
     let growth = growth_of(settings, p);
     let mut g = product(settings.a, p);
     let mut places = [0; 8];
     for step in 0..settings.k as usize {
-        places[step] = place_of(settings, length, g);
+        places[step] = place_of(settings, length, start, g);
         g = grow(g, growth);
     }
     places

@@ -3,7 +3,8 @@ use Prim.Native.Nat.{ℕ, zero, suc, _+_, _-_, _*_, _/_, _%_, _^_, _≤_, _<_}
 use mathlib.Core.Path.{_≡_, refl, sym, ap, _∙_, subst}
 use mathlib.Core.Bool.{true}
 use mathlib.Core.Logic.{_⊎_, inl, inr, _≢_}
-use native.Mathlib.Nat.{add-sub-cancel, div-lt-iff-lt-mul, le-of-suc-le-suc, lt-of-not-le, le-antisymm, mod-lt, mul-assoc, add-left-cancel, mul-le-mul-left, mul-le-mul-right, suc-mul}
+use native.Mathlib.Nat.{add-sub-cancel, div-lt-iff-lt-mul, le-of-suc-le-suc, lt-of-not-le, le-antisymm, mod-lt, mul-assoc, add-left-cancel, mul-le-mul-left, suc-mul}
+use native.Mathlib.Decide.{le-ind}
 use native.Mathlib.Omega.{arith}
 use lib.Arith.{digits-lt, digits-div, digits-mod}
 use lib.ListN.{length, length-map}
@@ -97,15 +98,25 @@ bucket-lt t p h = top-lt (t .e) (wrap (t .c * p)) (omega (arith, ranges t h)) (w
 
 -- ---- Counters
 
--- a filter ends before the next begins
-pub filters-apart : (t : Settings) (L M : ℕ) → 1 ≤ L → L < M → filter-start t L + 2 ^ filter-bits t L ≤ filter-start t M
+-- a filter ends where the next begins
+pub filter-next : (t : Settings) (L : ℕ) → 1 ≤ L → filter-start t L + 2 ^ filter-bits t L ≡ filter-start t (suc L)
 unfolding filter-start filter-bits
-filters-apart t L M low before = rw (← suc-mul (L - 1) (2 ^ t .d)) (mul-le-mul-right (2 ^ t .d) (omega arith))
+filter-next t L low = rw (← suc-mul (L - 1) (2 ^ t .d)) (ap (λ (x : ℕ). x * 2 ^ t .d) (omega arith))
 
--- and the last one ends with the counters
+-- and the counters end where a 33rd would begin
+pub filter-after-32 : (t : Settings) → counters-size t ≡ filter-start t 33
+unfolding filter-start counters-size
+filter-after-32 t = refl
+
+-- so it ends before any later one begins
+pub filters-apart : (t : Settings) (L M : ℕ) → 1 ≤ L → L < M → filter-start t L + 2 ^ filter-bits t L ≤ filter-start t M
+filters-apart t L M low before =
+    le-ind (λ (n : ℕ). filter-start t L + 2 ^ filter-bits t L ≤ filter-start t n) (omega (arith, filter-next t L low))
+    (λ n later so-far. omega (arith, so-far, filter-next t n (omega arith))) M before
+
+-- and within the counters
 pub filter-fits : (t : Settings) (L : ℕ) → Ready t L → filter-start t L + 2 ^ filter-bits t L ≤ counters-size t
-unfolding filter-start filter-bits counters-size
-filter-fits t L ready = rw (← suc-mul (L - 1) (2 ^ t .d)) (mul-le-mul-right (2 ^ t .d) (omega arith))
+filter-fits t L ready = rw (filter-after-32 t) (filters-apart t L 33 (ready .low) (omega arith))
 
 -- place i is a counter of the filter of length L
 pub record InFilter (t : Settings) (L i : ℕ) : Type 0 where

@@ -3,10 +3,11 @@ use Prim.Native.Nat.{ℕ, zero, suc, _+_, _-_, _*_, _/_, _%_, _^_, _≤_, _<_}
 use mathlib.Core.Path.{_≡_, refl, sym, ap, _∙_}
 use mathlib.Core.Bool.{false, not}
 use mathlib.Core.Logic.{_↔_}
-use native.Mathlib.Nat.{le-refl, lt-of-le-of-lt, div-one, mul-one, div-eq-of-lt, div-mul-le-self, mul-mod-left}
+use native.Mathlib.Nat.{add-zero, le-refl, lt-of-le-of-lt, div-one, mul-one, div-eq-of-lt, div-mul-le-self, mul-mod-left}
 use native.Mathlib.Omega.{arith}
+use lib.Bits.{bitAnd, and-block, and-high, and-zero-l}
 use lib.Dec.{eqb, ltb}
-use lib.Pow.{shr-shr, shl-shr, split}
+use lib.Pow.{pow-pos, pow-add, shr-mod, ones-lt, ones-split, high-ones, shr-shr, shl-shr, split}
 use borrow.Author.Tests.{eqb-true, eq-eqb, ne-eqb, lt-ltb, not-false}
 use Rattle.rules.specs.Table.{prefix, loose}
 
@@ -39,6 +40,21 @@ prefix-shorter L M address h = ap (λ (q : ℕ). q * 2 ^ (32 - L)) quotient
         in-two (address / 2 ^ (32 - M) * 2 ^ (32 - M))
         ∙ ap (λ (q : ℕ). q / 2 ^ ((32 - L) - (32 - M))) (shl-shr (address / 2 ^ (32 - M)) (32 - M))
         ∙ sym (in-two address)
+
+-- where the last k of w = j + (k + 1) bits are cleared, the bit 2^k is cleared too
+cleared : (n j k w : ℕ) → w ≡ j + (k + 1) → n < 2 ^ w → bitAnd (n / 2 ^ k * 2 ^ k) (2 ^ w - 1 - 2 ^ k) ≡ n / 2 ^ (k + 1) * 2 ^ (k + 1)
+cleared n j k w bits fits =
+    let q = n / 2 ^ k in
+    let kept : 2 ^ (j + (k + 1)) - 1 - 2 ^ k ≡ (2 ^ (j + 1) - 2 ^ 1) * 2 ^ k + (2 ^ k - 1) = rw (ones-split j (k + 1), high-ones j 1, pow-add 2 k 1) (omega (arith, pow-pos k)) in
+    rw (← add-zero (q * 2 ^ k), bits, kept, and-block k q (2 ^ (j + 1) - 2 ^ 1) 0 (2 ^ k - 1) (pow-pos k) (ones-lt k), and-high q j 1, and-zero-l (2 ^ k - 1), shr-shr n k 1, shr-mod j (k + 1) (rw bits at fits))
+    (rw (pow-add 2 k 1) (omega arith))
+
+-- the prefix of one length less is this one with one further bit cleared, the bit 2^(32 − L)
+pub prefix-next : (L address : ℕ) → 1 ≤ L → L ≤ 32 → address < 2 ^ 32 → bitAnd (prefix L address) (2 ^ 32 - 1 - 2 ^ (32 - L)) ≡ prefix (L - 1) address
+unfolding prefix
+prefix-next L address low high fits =
+    let more : 32 - (L - 1) ≡ 32 - L + 1 = omega arith in
+    rw more (cleared address (L - 1) (32 - L) 32 (omega arith) fits)
 
 -- a prefix is its own prefix
 pub prefix-again : (L address : ℕ) → prefix L (prefix L address) ≡ prefix L address

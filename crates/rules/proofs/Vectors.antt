@@ -3,17 +3,17 @@ use Prim.Native.Nat.{ℕ, zero, suc, _+_, _-_, _*_, _/_, _%_, _^_, _≤_, _<_, z
 use mathlib.Core.Path.{_≡_, refl, sym, ap, _∙_}
 use mathlib.Core.Bool.{Bool, true, false, cond}
 use mathlib.Core.List.{List, [], _∷_}
-use native.Mathlib.Nat.{not-suc-le-zero, le-of-suc-le-suc, le-refl, mul-assoc, le-suc-iff, zero-add, pow-suc, one-mul, two-pow-succ, lt-of-lt-of-le, le-trans, le-step, div-eq-of-lt, mul-add-div-right, mul-add-mod-self-right, mod-lt}
+use native.Mathlib.Nat.{mul-one, div-one, not-suc-le-zero, le-of-suc-le-suc, le-refl, mul-assoc, le-suc-iff, zero-add, pow-suc, one-mul, two-pow-succ, lt-of-lt-of-le, le-trans, le-step, div-eq-of-lt, mul-add-div-right, mul-add-mod-self-right, mod-lt}
 use mathlib.Core.Logic.{_⊎_, inl, inr}
 use native.Mathlib.Decide.{le-ind}
 use native.Mathlib.Numerals.{add-one, sub-one, one-add}
 use native.Mathlib.Omega.{arith}
 use lib.Arith.{lt-one}
-use lib.Bits.{bitOr, or-shifted-r}
+use lib.Bits.{bitOr, or-shifted}
 use lib.Count.{ones, ones-cat}
 use lib.Dec.{eqb}
 use lib.ListN.{length}
-use lib.Pow.{shl-exact, pow-pos, pow-mono, pow-add, split, high, shr-lt}
+use lib.Pow.{shr-shr, pow-lt, shl-exact, pow-pos, pow-mono, pow-add, split, high, shr-lt}
 use Rattle.rules.specs.Tools.{those}
 use Rattle.rules.specs.Table.{bits-where, down-from, bit-set, set-bits}
 
@@ -151,14 +151,36 @@ ones-set-bits v h = ones-those 32 v h
 pub one-bit : (L : ℕ) → 1 ≤ L → L ≤ 32 → 1 * 2 ^ (L - 1) % 2 ^ 32 ≡ 2 ^ (L - 1)
 one-bit L low high = shl-exact {a = 1} 1 (L - 1) 32 (omega arith) (omega arith) ∙ one-mul (2 ^ (L - 1))
 
--- one length more: its bit is set where the test holds there
-module _ (test : ℕ → Bool) (n vector : ℕ) (so-far : vector ≡ bits-where test n) where
-  pub bit-more : test (n + 1) ≡ true → bitOr vector (2 ^ n) ≡ bits-where test (n + 1)
-  unfolding bits-where
-  bit-more holds =
-      rw (so-far, add-one n, ← (one-mul (2 ^ n)), or-shifted-r 1 n (bits-where test n) (bits-lt test n))
-      (rw (one-mul (2 ^ n), ← (add-one n), holds))
+-- a digit is 1 or 0
+digit : (x : ℕ) → x < 2 → x ≡ cond (eqb x 1) 1 0
+digit zero h = refl
+digit (suc zero) h = refl
+digit (suc (suc x)) h = absurd (not-suc-le-zero (le-of-suc-le-suc (le-of-suc-le-suc h)))
 
-  pub bit-less : test (n + 1) ≡ false → vector ≡ bits-where test (n + 1)
-  unfolding bits-where
-  bit-less fails = so-far ∙ rw (add-one n, ← (add-one n), fails) (sym (zero-add (bits-where test n)))
+-- A vector that is made from length 32 down: where lengths up to n are still to come, it is the whole one without their bits.
+module _ (test : ℕ → Bool) where
+  abbrev pub filled : (n : ℕ) → ℕ
+  filled n = bits-where test 32 / 2 ^ n * 2 ^ n
+
+  pub none-filled : filled 32 ≡ 0
+  none-filled = ap (λ (q : ℕ). q * 2 ^ 32) (div-eq-of-lt (bits-lt test 32))
+
+  pub all-filled : filled 0 ≡ bits-where test 32
+  all-filled = mul-one (bits-where test 32 / 1) ∙ div-one (bits-where test 32)
+
+  -- each length adds its bit
+  one-length : (n : ℕ) → n < 32 → filled n ≡ filled (suc n) + cond (test (suc n)) 1 0 * 2 ^ n
+  unfolding bit-set
+  one-length n h =
+      let v = bits-where test 32 in
+      let its : v / 2 ^ n % 2 ≡ cond (test (suc n)) 1 0 = digit (v / 2 ^ n % 2) (mod-lt (v / 2 ^ n) (omega arith)) ∙ ap (λ (b : Bool). cond b 1 0) (rw sub-one at (bit-where test 32 (suc n) (omega arith) h)) in
+      ap (λ (q : ℕ). q * 2 ^ n) (sym (split (v / 2 ^ n) 1)) ∙ rw (its, shr-shr v n 1, add-one n, pow-suc 2 n) (omega arith)
+
+  pub bit-filled : (L : ℕ) → 1 ≤ L → L ≤ 32 → test L ≡ true → bitOr (filled L) (2 ^ (L - 1)) ≡ filled (L - 1)
+  bit-filled zero low high holds = absurd (not-suc-le-zero low)
+  bit-filled (suc n) low high holds =
+      rw sub-one (or-shifted (bits-where test 32 / 2 ^ suc n) (suc n) (2 ^ n) (pow-lt (le-refl (suc n))) ∙ omega (arith, rw holds at (one-length n high)))
+
+  pub bit-passed : (L : ℕ) → 1 ≤ L → L ≤ 32 → test L ≡ false → filled L ≡ filled (L - 1)
+  bit-passed zero low high fails = absurd (not-suc-le-zero low)
+  bit-passed (suc n) low high fails = rw sub-one (omega (arith, rw fails at (one-length n high)))

@@ -48,6 +48,10 @@ eight-gone = withdraw T ten-eight (ip 8 0 0 0) 8 .memory
 abbrev nine-again : Update
 nine-again = add T eight-gone (ip 9 0 0 0) 8 6
 
+-- routes of lengths 32, 31 and 1
+abbrev both-ends : Memory
+both-ends = add T (add T (add T (empty T) (ip 10 1 2 3) 32 1 .memory) (ip 10 1 2 2) 31 2 .memory) 0 1 3 .memory
+
 -- settings with larger multipliers: K 3, D 6, E 3, S 2
 abbrev U : Settings
 U = settings 3 6 3 2 2654435761 2246822519 3266489917
@@ -295,6 +299,21 @@ replaced =
     ∷ case (add T ten (ip 10 0 0 0) 8 65536 .refusal ∷ []) (5 ∷ [])
     ∷ []
 
+-- from length 32 down to length 1
+downwards : List Case
+downwards =
+    -- W9: the prefixes of 10.1.2.3, before and after each bit that it loses
+    case (map (λ L. prefix L (ip 10 1 2 3)) (32 ∷ 31 ∷ 30 ∷ 23 ∷ 22 ∷ 16 ∷ 15 ∷ 7 ∷ 6 ∷ 5 ∷ 4 ∷ 1 ∷ []))
+    (ip 10 1 2 3 ∷ ip 10 1 2 2 ∷ ip 10 1 2 0 ∷ ip 10 1 2 0 ∷ ip 10 1 0 0 ∷ ip 10 1 0 0 ∷ ip 10 0 0 0 ∷ ip 10 0 0 0 ∷ ip 8 0 0 0 ∷ ip 8 0 0 0 ∷ 0 ∷ 0 ∷ [])
+    -- claimed at 32, 31 and 1: 2^31 + 2^30 + 1
+    ∷ case (match-vector T both-ends (ip 10 1 2 3) .vector ∷ []) (3221225473 ∷ [])
+    ∷ case (figures (lookup T both-ends (ip 10 1 2 3))) (finds 1 32 1)
+    ∷ case (figures (lookup T both-ends (ip 10 1 2 2))) (finds 2 31 2)
+    ∷ case (figures (lookup T both-ends (ip 10 1 2 0))) (finds 3 1 3)
+    -- at length 1 the first bit decides
+    ∷ case (match-vector T both-ends (ip 127 255 255 255) .vector ∷ match-vector T both-ends (ip 128 0 0 0) .vector ∷ []) (1 ∷ 0 ∷ [])
+    ∷ []
+
 -- two lists of numbers are the same
 unfoldable pub same : List ℕ → List ℕ → Bool
 same [] [] = true
@@ -312,6 +331,6 @@ unfoldable pub computing : ℕ
 unfolding within all any count those lowest in-range wrap prefix steps filter-bits positions bucket counters-size filter-start counter-place counter-places slots-size slot-number prefix-word mark-word default-word occupied mark-of hop-of mark-at prefix-at default-mark holds free held vacant is-some stored refuse sized loose full hits passes-15 runs-short from-1 needs-slot memory-refusal route-refusal add-refusal withdraw-refusal change-refusal update zeroed step-each with-slot with-default with-found added withdrawn changed clear add withdraw change claims bits-where vector-of match-vector down-from bit-set set-bits search route-answer default-answer place-answer refused answer-of lookup one-if answer-words list-words listed fourfold list-refusal lookup-list whole-words words answer-number vector-number c-lookup c-match-vector bytes-of c-list-refusal c-lookup-list
 computing = 0
 
-all-come-out : come-out (worked ++ refusals ++ further ++ lists ++ replaced) ≡ true
-unfolding worked refusals further lists replaced same come-out computing
+all-come-out : come-out (worked ++ refusals ++ further ++ lists ++ replaced ++ downwards) ≡ true
+unfolding worked refusals further lists replaced downwards same come-out computing
 all-come-out = refl

@@ -4,23 +4,29 @@ ghost use mathlib.Core.Bool.{true};
 ghost use Rattle.rules.specs.Table.{in-range, vector-of};
 ghost use Rattle.rules.specs.Ready.{Counters};
 use filters::claims_prefix;
-use prefixes::prefix_of;
+use filters::filter_size;
 use rules::Settings;
 
-// The vector of an address: bit L - 1 is set exactly if the filter of length L claims its prefix.
+// The vector of an address: bit L - 1 is set exactly if the filter of length L claims its prefix. A step
+// down to the next shorter length clears one bit of the prefix, and leads to the filter that lies just
+// before. The bit to be cleared is 2^(32 - L): it has L - 1 zeros before it, and after length 1 it is gone.
 pub fn vector_of(settings: Settings, counters: &[u8], address: u32) -> u32
     requires { ⌜ in-range settings ≡ true ⌝ }
     requires { ⌜ Counters settings (now counters) ⌝ }
     ensures { λ r. ⌜ r ≡ vector-of settings (now (counters .entry)) address ⌝ }
 {
     let mut vector: u32 = 0;
-    let mut length: u32 = 0;
-    while length < 32 {
-        length += 1;
-        let p = prefix_of(address, length);
-        if claims_prefix(settings, counters, p, length) {
+    let mut p = address;
+    let mut bit: u32 = 1;
+    let mut start = counters.len();
+    while bit != 0 {
+        let length = u32::leading_zeros(bit) + 1;
+        start -= filter_size(settings, length);
+        if claims_prefix(settings, counters, p, length, start) {
             vector = vector | 1 << (length - 1);
         }
+        p = p & !bit;
+        bit = bit << 1;
     }
     vector
 }

@@ -22,11 +22,11 @@ nonzero : (counters places : List ℕ) → Bool
 nonzero counters places = all (λ i. ltb 0 (getD counters i 0)) places
 
 abbrev Inv-loop : tie.InvT-loop
-Inv-loop settings counters p length growth g₀ claimed₀ counter₀ end g claimed counter =
+Inv-loop settings counters p length start growth g₀ claimed₀ counter₀ end g claimed counter =
     (claimed ≡ true) × (claims settings counters length p ≡ nonzero counters (places-left settings length growth counter g))
 
 abbrev μ-loop : tie.MeasureT-loop
-μ-loop settings counters p length growth g₀ claimed₀ counter₀ end g claimed counter = end - counter
+μ-loop settings counters p length start growth g₀ claimed₀ counter₀ end g claimed counter = end - counter
 
 growth-of-requires : tie.Need-growth-of-requires Inv-loop μ-loop
 growth-of-requires c κs = search needs
@@ -46,7 +46,7 @@ place-of-requires c κs = search needs
 shared-slice-read-if1 : tie.Need-shared-slice-read-if1 Inv-loop μ-loop
 shared-slice-read-if1 c =
     let visit = c .before in
-    omega (arith, visit .place-of .ensures .inside, visit .before .before .before .before .before .before .pre .1 .size)
+    omega (arith, visit .place-of .ensures .inside, visit .before .before .before .before .before .before .pre .1 .0 .size)
 
 grow-requires : tie.Need-grow-requires Inv-loop μ-loop
 grow-requires c κs = search needs

@@ -9,27 +9,24 @@ use Rattle.filters.specs.Visits.{Placed}
 use Rattle.filters.proofs.place_of.Statement.{statement}
 use Rattle.filters.proofs.place_of.Tie as tie
 
-start-of-requires : tie.Need-start-of-requires
-start-of-requires c κs = search needs
-
 top-bits-requires : tie.Need-top-bits-requires
-top-bits-requires c κs = omega (arith, ranges _ (c .before .pre .range))
+top-bits-requires c κs = omega (arith, ranges _ (c .pre .0 .range))
 
 cast-result : tie.Need-cast-result
 cast-result c = search needs
 
-sum : (c : tie.After-top-bits) → let a = c .before .before .args in Placed (a .settings) (a .length) (a .g) (c .before .start-of .result + c .top-bits .result)
+sum : (c : tie.After-top-bits) → let a = c .before .args in Placed (a .settings) (a .length) (a .g) (a .start + c .top-bits .result)
 unfolding counter-place filter-bits
 sum c =
-    let start = c .before .before in
-    rw (c .before .start-of .ensures, c .top-bits .ensures) (record { there = refl; inside = number-fits _ _ _ (start .pre) (start .fits .g .fits) })
+    let start = c .before in
+    rw (start .pre .1, c .top-bits .ensures) (record { there = refl; inside = number-fits _ _ _ (start .pre .0) (start .fits .g .fits) })
 
 add-result : tie.Need-add-result
-add-result c = omega (arith, sum c .inside, counters-few _ (c .before .before .pre .range))
+add-result c = omega (arith, sum c .inside, counters-few _ (c .before .pre .0 .range))
 
 returns : tie.Need-returns
 returns c = sum c
 
 pub place-of-spec : {M : Type 1} → statement M
 place-of-spec =
-    tie.close (tie.spec start-of-requires top-bits-requires cast-result add-result returns)
+    tie.close (tie.spec top-bits-requires cast-result add-result returns)

@@ -10,10 +10,13 @@ use Rattle.filters.proofs.places_of.Statement.{statement}
 use Rattle.filters.proofs.places_of.Tie as tie
 
 abbrev Inv-loop : tie.InvT-loop
-Inv-loop settings p length growth g₀ places₀ step₀ step-end g places step = Written settings length p growth places step g
+Inv-loop settings p length start growth g₀ places₀ step₀ step-end g places step = Written settings length p growth places step g
 
 abbrev μ-loop : tie.MeasureT-loop
-μ-loop settings p length growth g₀ places₀ step₀ step-end g places step = step-end - step
+μ-loop settings p length start growth g₀ places₀ step₀ step-end g places step = step-end - step
+
+start-of-requires : tie.Need-start-of-requires Inv-loop μ-loop
+start-of-requires c κs = search needs
 
 growth-of-requires : tie.Need-growth-of-requires Inv-loop μ-loop
 growth-of-requires c κs = search needs
@@ -26,7 +29,7 @@ cast-step-end c = search needs
 
 loop-holds : tie.Need-loop-holds Inv-loop μ-loop
 loop-holds c =
-    let a = c .before .before .before .args in
+    let a = c .before .before .before .before .args in
     record {
       size = refl;
       ends = all-left (a .settings) (a .length) _ (a .p) (c .before .before .growth-of .ensures) (c .before .product .ensures);
@@ -37,7 +40,7 @@ place-of-requires : tie.Need-place-of-requires Inv-loop μ-loop
 place-of-requires c κs = search needs
 
 few : (c : tie.In-loop Inv-loop μ-loop) → c .before .loop .step < 8
-few c = omega (arith, ranges _ (c .before .before .before .before .before .pre .range))
+few c = omega (arith, ranges _ (c .before .before .before .before .before .before .pre .range))
 
 mul-places : tie.Need-mul-places Inv-loop μ-loop
 mul-places c = omega (arith, few (c .before))
@@ -69,6 +72,7 @@ places-of-spec =
     (tie.spec
     Inv-loop
     μ-loop
+    start-of-requires
     growth-of-requires
     product-requires
     cast-step-end
