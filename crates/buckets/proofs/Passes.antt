@@ -7,19 +7,18 @@ use mathlib.Core.Option.{Option, some, none}
 use native.Mathlib.Nat.{le-antisymm}
 use native.Mathlib.Numerals.{add-one}
 use native.Mathlib.Omega.{arith}
-use lib.Dec.{eqb}
-use borrow.Author.Tests.{eq-eqb, ne-eqb, not-false}
 use Rattle.rules.specs.declared.Settings.{Settings}
 use Rattle.rules.specs.declared.Place.the-variants.{At, Absent}
 use Rattle.rules.specs.Tools.{lowest, or-else}
-use Rattle.rules.specs.Table.{slot-number, mark-at, prefix-at, occupied, holds, free, held, vacant}
+use Rattle.rules.specs.Table.{slot-number, mark-at, occupied, holds, free, held, vacant}
 use Rattle.rules.proofs.Lowest.{lowest-on, lowest-here}
 use Rattle.rules.proofs.Found.{InBucket, found-at, found-nowhere}
 use Rattle.buckets.specs.declared.Vacancy.{Vacancy}
 use Rattle.buckets.specs.declared.Vacancy.the-variants.{At as Free, Full}
 use Rattle.buckets.specs.declared.Searched.{Searched}
 use Rattle.buckets.specs.Passes.{Passed, vacancy-of, or-this}
-use Rattle.buckets.proofs.Slots.{counted, free-by, free-holds, holds-by}
+use Rattle.buckets.specs.Turns.{holding}
+use Rattle.buckets.proofs.Slots.{counted, free-by, holds-by}
 
 -- no slot below s holds p, and the vacancy is the lowest free one of them
 pub record Met (t : Settings) (slots : List ℕ) (L p : ℕ) (vacancy : Vacancy) (s : ℕ) : Type 0 where
@@ -59,42 +58,42 @@ module _ {t : Settings} {slots : List ℕ} {L p : ℕ} where
       let nothing = rw last at (met .none-holds) in
       record { place = rw nothing; vacancy = met .first-free ∙ rw (nothing, last) }
 
-  -- slot s, by what the code reads and tests of it
-  module _ {vacancy : Vacancy} {s first mark : ℕ} {r : Bool} (met : Met t slots L p vacancy s) (below : s < t .s)
-      (from : first ≡ slot-number t L p 0) (m : mark ≡ mark-at slots (first + s)) (o : r ≡ occupied mark) where
-    is-free : free t slots L p s ≡ not r
-    is-free = free-by t slots L p s first from mark r m o
-
-    pub met-free : not r ≡ true → Met t slots L p (or-this vacancy (first + s)) (s + 1)
-    unfolding lowest
-    met-free denied =
+  -- slot s, by what the code finds of it: whether it holds p
+  module _ {vacancy : Vacancy} {s first : ℕ} {h : Bool} (met : Met t slots L p vacancy s) (below : s < t .s)
+      (from : first ≡ slot-number t L p 0) (found : h ≡ holding slots (first + s) p) where
+    pub met-here : h ≡ true → Passed t slots L p (record { place = At (first + s) L 1; vacancy = vacancy })
+    unfolding held
+    met-here here =
+        let lowest-is = lowest-here (holds t slots L p) _ _ below (met .none-holds) (holds-by t slots L p s first from h found ∙ here) in
         record {
-          within = omega arith;
-          none-holds = lowest-on (holds t slots L p) s (met .none-holds) (free-holds t slots L p s (is-free ∙ denied));
-          first-free = rw (add-one, is-free ∙ denied, met .first-free) (kept t L p (lowest (free t slots L p) s) s _ (counted t L p s first from));
+          place = rw (lowest-is, counted t L p s first from);
+          vacancy = met .first-free ∙ rw lowest-is;
         }
 
-    -- occupied, with this prefix
-    module _ (taken : not r ≡ false) {q : ℕ} (own : q ≡ prefix-at slots (first + s)) where
-      by-prefix : holds t slots L p s ≡ eqb q p
-      by-prefix = holds-by t slots L p s first from _ (rw (own, ← m, ← o, not-false r taken))
+    -- and where it does not, by its mark
+    module _ (elsewhere : h ≡ false) {mark : ℕ} {r : Bool} (m : mark ≡ mark-at slots (first + s)) (o : r ≡ occupied mark) where
+      is-free : free t slots L p s ≡ not r
+      is-free = free-by t slots L p s first from mark r m o
 
-      pub met-other : (q ≡ p → ⊥) → Met t slots L p vacancy (s + 1)
+      none-yet : lowest (holds t slots L p) (s + 1) ≡ none
+      none-yet = lowest-on (holds t slots L p) s (met .none-holds) (holds-by t slots L p s first from h found ∙ elsewhere)
+
+      pub met-free : not r ≡ true → Met t slots L p (or-this vacancy (first + s)) (s + 1)
       unfolding lowest
-      met-other other =
+      met-free denied =
           record {
             within = omega arith;
-            none-holds = lowest-on (holds t slots L p) s (met .none-holds) (by-prefix ∙ ne-eqb _ _ other);
-            first-free = met .first-free ∙ rw (add-one, is-free ∙ taken, unmoved (lowest (free t slots L p) s));
+            none-holds = none-yet;
+            first-free = rw (add-one, is-free ∙ denied, met .first-free) (kept t L p (lowest (free t slots L p) s) s _ (counted t L p s first from));
           }
 
-      pub met-here : q ≡ p → Passed t slots L p (record { place = At (first + s) L 1; vacancy = vacancy })
-      unfolding held
-      met-here same =
-          let lowest-is = lowest-here (holds t slots L p) _ _ below (met .none-holds) (by-prefix ∙ eq-eqb _ _ same) in
+      pub met-other : not r ≡ false → Met t slots L p vacancy (s + 1)
+      unfolding lowest
+      met-other taken =
           record {
-            place = rw (lowest-is, counted t L p s first from);
-            vacancy = met .first-free ∙ rw lowest-is;
+            within = omega arith;
+            none-holds = none-yet;
+            first-free = met .first-free ∙ rw (add-one, is-free ∙ taken, unmoved (lowest (free t slots L p) s));
           }
 
   -- what the answer tells: where p is held, or that it is not, and then where a free slot is, or that there is none

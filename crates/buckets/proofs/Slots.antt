@@ -1,15 +1,16 @@
 -- Slots of a bucket by their number: what the code counts from the first one is `slot-number`, and lies within the lent words.
 use Prim.Native.Nat.{ℕ, _+_, _-_, _*_, _%_, _^_, _≤_, _<_}
-use mathlib.Core.Path.{_≡_, ap}
-use mathlib.Core.Bool.{Bool, true, false, not}
+use mathlib.Core.Path.{_≡_, sym, ap, _∙_}
+use mathlib.Core.Bool.{Bool, not, and-comm}
 use mathlib.Core.List.{List}
 use native.Mathlib.Nat.{mul-le-mul, mod-eq-of-lt}
 use native.Mathlib.Omega.{arith}
+use lib.Dec.{eqb}
 use lib.ListN.{length}
 use lib.Pow.{pow-mono}
-use borrow.Author.Tests.{not-true}
+use borrow.Author.Tests.{eq-eqb, ne-eqb}
 use Rattle.rules.specs.declared.Settings.{Settings}
-use Rattle.rules.specs.Table.{bucket, slot-number, mark-word, default-word, mark-at, occupied, free, holds}
+use Rattle.rules.specs.Table.{bucket, slot-number, mark-word, default-word, mark-at, prefix-at, occupied, free, holds}
 use Rattle.rules.specs.Ready.{Ready, Slots}
 use Rattle.rules.proofs.Placing.{ranges, bucket-lt, words-fit, default-fits}
 use Rattle.buckets.specs.Turns.{holding}
@@ -52,11 +53,6 @@ module _ (t : Settings) (slots : List ℕ) (L p s first : ℕ) (from : first ≡
   unfolding holds
   holds-by r h = rw (h, counted t L p s first from)
 
--- a free slot does not hold p
-pub free-holds : (t : Settings) (slots : List ℕ) (L p s : ℕ) → free t slots L p s ≡ true → holds t slots L p s ≡ false
-unfolding free holds
-free-holds t slots L p s h = rw (not-true (occupied (mark-at slots (slot-number t L p s))) h)
-
 -- the last word is the default's
 pub some-word : (t : Settings) (slots : List ℕ) → Slots t slots → 1 ≤ length slots
 some-word t slots lent = omega (arith, default-fits t, lent .size)
@@ -64,3 +60,12 @@ some-word t slots lent = omega (arith, default-fits t, lent .size)
 pub last-word : (t : Settings) (slots : List ℕ) → Slots t slots → length slots - 1 ≡ default-word t
 unfolding default-word
 last-word t slots lent = ap (λ (n : ℕ). n - 1) (lent .size)
+
+-- A slot's prefix, once read, decides alone where it is another, and leaves it to the mark where it is p.
+module _ (slots : List ℕ) (n p q : ℕ) (read : q ≡ prefix-at slots n) where
+  pub same-prefix : (mark : ℕ) {by-mark : Bool} → q ≡ p → mark ≡ mark-at slots n → by-mark ≡ occupied mark → by-mark ≡ holding slots n p
+  same-prefix mark same its-mark by =
+      by ∙ ap occupied its-mark ∙ sym (and-comm (occupied (mark-at slots n)) (eqb (prefix-at slots n) p) ∙ rw (← read, eq-eqb q p same))
+
+  pub other-prefix : (q ≡ p → ⊥) → eqb q p ≡ holding slots n p
+  other-prefix other = sym (and-comm (occupied (mark-at slots n)) (eqb (prefix-at slots n) p) ∙ rw (← read, ne-eqb q p other))

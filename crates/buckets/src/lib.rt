@@ -96,7 +96,7 @@ fn holds_at(slots: &[u32], slot: usize, p: u32) -> bool
     requires { ⌜ mark-word slot < length (now slots) ⌝ }
     ensures { λ r. ⌜ r ≡ holding (now (slots .entry)) slot p ⌝ }
 {
-    is_occupied(mark_at(slots, slot)) && prefix_at(slots, slot) == p
+    prefix_at(slots, slot) == p && is_occupied(mark_at(slots, slot))
 }
 
 // A turn of a search: the longest length that is left, the address's prefix of it, the first slot of
@@ -171,15 +171,16 @@ pub fn search_bucket(settings: Settings, slots: &[u32], p: u32, length: u32) -> 
     let mut s: u32 = 0;
     while s < settings.s {
         let slot = first + s as usize;
-        if !is_occupied(mark_at(slots, slot)) {
-            vacancy = first_of(vacancy, slot);
-        } else if prefix_at(slots, slot) == p {
+        if holds_at(slots, slot, p) {
             let place = Place::At {
                 slot,
                 length,
                 probes: 1,
             };
             return Searched { place, vacancy };
+        }
+        if !is_occupied(mark_at(slots, slot)) {
+            vacancy = first_of(vacancy, slot);
         }
         s += 1;
     }

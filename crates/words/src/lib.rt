@@ -72,7 +72,7 @@ fn holds_at(slots: &[u8], slot: usize, p: u32) -> bool
     requires { ⌜ mark-word slot < length (words (now slots)) ⌝ }
     ensures { λ r. ⌜ r ≡ holding (words (now (slots .entry))) slot p ⌝ }
 {
-    is_occupied(mark_at(slots, slot)) && word_at(slots, 2 * slot) == p
+    word_at(slots, 2 * slot) == p && is_occupied(mark_at(slots, slot))
 }
 
 // Searches the buckets of an address at the lengths whose bits are set in `lengths`, as

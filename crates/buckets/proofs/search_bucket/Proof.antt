@@ -36,33 +36,33 @@ add-slot : tie.Need-add-slot Inv-loop μ-loop
 unfolding mark-word
 add-slot c = omega (arith, words-lent c)
 
-mark-at-requires : tie.Need-mark-at-requires Inv-loop μ-loop
-mark-at-requires c κs = words-lent c
-
-prefix-at-requires : tie.Need-prefix-at-requires Inv-loop μ-loop
-prefix-at-requires c κs = words-lent (c .before .before .before)
+holds-at-requires : tie.Need-holds-at-requires Inv-loop μ-loop
+holds-at-requires c κs = words-lent c
 
 returns : tie.Need-returns Inv-loop μ-loop
 returns c =
-    let tested = c .before .before in
-    let in-loop = tested .before .before .before in
+    let in-loop = c .before .before in
     let at-loop = in-loop .before .before in
-    met-here (at-loop .loop .inv) (in-loop .if1 .taken) (at-loop .before .first-slot .ensures) (tested .before .before .mark-at .ensures) (tested .before .is-occupied .ensures)
-    (tested .if2 .left) (c .before .prefix-at .ensures) (c .if3 .taken)
+    met-here (at-loop .loop .inv) (in-loop .if1 .taken) (at-loop .before .first-slot .ensures) (c .before .holds-at .ensures) (c .if2 .taken)
+
+mark-at-requires : tie.Need-mark-at-requires Inv-loop μ-loop
+mark-at-requires c κs = words-lent (c .before .before)
 
 add-s : tie.Need-add-s Inv-loop μ-loop
-add-s c = omega (arith, ranges _ (c .before .before .before .before .before .before .before .before .pre .0 .range))
+add-s c = omega (arith, ranges _ (c .before .before .before .before .before .before .before .before .before .before .pre .0 .range))
 
 loop-again : tie.Need-loop-again Inv-loop μ-loop
 loop-again c =
-    let occupied = c .before in
-    let in-loop = occupied .before .before in
+    let marked = c .before .before in
+    let elsewhere = marked .before in
+    let in-loop = elsewhere .before .before in
     let at-loop = in-loop .before .before in
     let inv = at-loop .loop .inv in
     let from = at-loop .before .first-slot .ensures in
-    let mark = occupied .before .mark-at .ensures in
-    ⊎-elim (λ w. rw (w .2, w .1 .ensures) (met-free inv (in-loop .if1 .taken) from mark (occupied .is-occupied .ensures) (w .0 .taken)))
-    (λ w. rw (w .3) (met-other inv (in-loop .if1 .taken) from mark (occupied .is-occupied .ensures) (w .0 .left) (w .1 .ensures) (w .2 .left))) (c .if2 .came)
+    let found = elsewhere .before .holds-at .ensures in
+    let occupied = c .before .is-occupied .ensures in
+    ⊎-elim (λ w. rw (w .2, w .1 .ensures) (met-free inv (in-loop .if1 .taken) from found (elsewhere .if2 .left) (marked .mark-at .ensures) occupied (w .0 .taken)))
+    (λ w. rw (w .1) (met-other inv (in-loop .if1 .taken) from found (elsewhere .if2 .left) (marked .mark-at .ensures) occupied (w .0 .left))) (c .if3 .came)
 
 returns-2 : tie.Need-returns-2 Inv-loop μ-loop
 returns-2 c = met-all (c .before .before .loop .inv) (c .if1 .left)
@@ -77,11 +77,11 @@ search-bucket-spec =
     loop-holds
     (λ c. omega arith)
     add-slot
+    holds-at-requires
+    returns
     mark-at-requires
     (λ c κs. search needs)
     (λ c κs. search needs)
-    prefix-at-requires
-    returns
     add-s
     (λ c. omega arith)
     loop-again

@@ -1,12 +1,12 @@
--- A shift down is a division; with no bits kept the number is below the divisor.
-use mathlib.Core.Path.{sym}
-use native.Mathlib.Nat.{div-eq-of-lt}
+-- A shift down is a division, and makes no number larger.
+use native.Mathlib.Nat.{lt-of-le-of-lt}
+use lib.Pow.{shr-le}
 use borrow.Author.Needs.{needs}
 use Rattle.hashes.proofs.top_bits.Statement.{statement}
 use Rattle.hashes.proofs.top_bits.Tie as tie
 
-returns : tie.Need-returns
-returns c = rw (c .if1 .taken) (sym (div-eq-of-lt (c .before .fits .g .fits)))
+cast-result-2 : tie.Need-cast-result-2
+cast-result-2 c = record { fits = lt-of-le-of-lt (shr-le _ _) (c .fits .g .fits) }
 
 pub top-bits-spec : {M : Type 1} → statement M
-top-bits-spec = tie.close (tie.spec (λ c. search needs) (λ c. search needs) returns (λ c. search needs))
+top-bits-spec = tie.close (tie.spec (λ c. search needs) (λ c. search needs) (λ c. search needs) cast-result-2 (λ c. search needs))
