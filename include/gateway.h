@@ -72,7 +72,7 @@ extern "C" {
 #endif
 
 /* The version of this header, of its archive and of its pkg-config file; CHANGELOG.md tells them apart. */
-#define GATEWAY_VERSION "0.4.0"
+#define GATEWAY_VERSION "0.4.1"
 
 /* An answer that is not looked at is a refusal that nobody sees: the compiler warns of it. */
 #if defined(__GNUC__)
