@@ -107,7 +107,7 @@ module _ (w : World) (κs : Lfts 2) (qs : Shares 2) where
       → ent (w .𝓤) (onEntry (w .𝓤) (w .H) (w .𝓖 .A) gateway_match_vector.signature κs qs a vss) (fact (w .𝓤) (GoodsP κs match-vector-kinds.ps a))
   match-vector-owned = owned w match-vector-kinds.ps match-vector-kinds.r κs qs
 
-all-bytes : (bytes : List ℕ) → AllWT (fInt w8) bytes → areBytes bytes ≡ true
+pub all-bytes : (bytes : List ℕ) → AllWT (fInt w8) bytes → areBytes bytes ≡ true
 all-bytes [] fit = refl
 all-bytes (byte ∷ bytes) fit = rw (lt-ltb byte 256 (fit .0 .fits)) (all-bytes bytes (fit .1))
 

@@ -110,7 +110,7 @@ module _ (t : Settings) (counters slots addresses results : List ℕ) (answer : 
 
 -- ---- Result i
 
-byte-at : (bytes : List ℕ) → areBytes bytes ≡ true → (i : ℕ) → getD bytes i 0 < 256
+pub byte-at : (bytes : List ℕ) → areBytes bytes ≡ true → (i : ℕ) → getD bytes i 0 < 256
 byte-at [] small i = omega arith
 byte-at (b ∷ bytes) small zero = ltb-true b 256 (both _ _ small .0)
 byte-at (b ∷ bytes) small (suc i) = byte-at bytes (both (ltb b 256) _ small .1) i

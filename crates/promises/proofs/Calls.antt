@@ -27,6 +27,15 @@ acted t (Add p L hop) counters slots e = e
 acted t (Withdraw p L) counters slots e = e
 acted t (Change p L hop) counters slots e = e
 
+-- what the rules give back and leave meets a call's contract
+pub met : (t : Settings) (call : Call) (counters slots : List ℕ)
+    → let u = act t call (lent counters slots) in Ensured t call counters slots (u .refusal) (u .memory .counters) (u .memory .slots)
+unfolding act
+met t Clear counters slots = refl
+met t (Add p L hop) counters slots = refl
+met t (Withdraw p L) counters slots = refl
+met t (Change p L hop) counters slots = refl
+
 -- ---- Any call, on any settings, lists and arguments
 
 module _ (t : Settings) (call : Call) (counters slots : List ℕ) (r : ℕ) (counters' slots' : List ℕ) (ensured : Ensured t call counters slots r counters' slots') where

@@ -98,16 +98,16 @@ module _ (all : List Condition) {given : ℕ} (first : given ≡ first-met all) 
 
 -- ---- Each check is its condition
 
-not-both : (a b : Bool) → not (a && b) ≡ not a || not b
+pub not-both : (a b : Bool) → not (a && b) ≡ not a || not b
 not-both true b = refl
 not-both false b = refl
 
-within-outside : (low high n : ℕ) → not (within low high n) ≡ outside low high n
+pub not-above : (a b : ℕ) → not (leb a b) ≡ ltb b a
+not-above a b = by-cases (leb a b) (λ h. rw (h, le-ltb b a (leb-true a b h))) (λ h. rw (h, lt-ltb b a (leb-false a b h)))
+
+pub within-outside : (low high n : ℕ) → not (within low high n) ≡ outside low high n
 unfolding within outside
-within-outside low high n = not-both (leb low n) (leb n high) ∙ ap₂ _||_ (sym (otherwise low n)) (sym (otherwise n high))
-  where
-    otherwise : (a b : ℕ) → ltb b a ≡ not (leb a b)
-    otherwise a b = by-cases (leb a b) (λ h. rw (h, le-ltb b a (leb-true a b h))) (λ h. rw (h, lt-ltb b a (leb-false a b h)))
+within-outside low high n = not-both (leb low n) (leb n high) ∙ ap₂ _||_ (not-above low n) (not-above n high)
 
 is-some-below : (test : ℕ → Bool) (n : ℕ) → is-some (lowest test n) ≡ some-below test n
 unfolding lowest some-below is-some

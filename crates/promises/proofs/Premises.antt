@@ -22,12 +22,13 @@ use Rattle.rules.proofs.Settings.Laws.{the-laws}
 use Rattle.rules.proofs.Worked.{ip, T, same}
 use Rattle.promises.specs.History.{Route, Call, Clear, Add, Withdraw, Change, word-sized, all-word-sized, act, ask, history}
 use Rattle.promises.specs.Demands.{Finds, SaysNone, answer-at, Swapped, matches, Longest, adds, refusals, longest, longer}
-use Rattle.promises.specs.Calls.{Ensured, Made, Ran, Stop, Step, Ask, calls-of, on-paper, Served, ListEnsured, Words}
+use Rattle.promises.specs.Calls.{Made, Ran, Stop, Step, Ask, calls-of, on-paper, Served, ListEnsured, Words}
 use Rattle.promises.proofs.Agree.{sevens, computing}
 use Rattle.promises.proofs.Paper.{route}
 use Rattle.promises.proofs.Matches.{right}
 use Rattle.promises.proofs.Promises.{finds-longest, finds-default, none-exactly, stored-accepted, replaced-found, replaced-others, freed-again, freed-for-others, all-accepted}
 use Rattle.promises.proofs.Contracts.{Called, ClearCalled, AddCalled, called-ensured, Looked, LookupCalled, ListCalled, LookupListCalled, place-looked, Ended, Next, NextList, Serving}
+use Rattle.promises.proofs.Calls.{met}
 use Rattle.promises.proofs.Callers as caller
 
 -- a day of calls, with the number that each is given
@@ -131,15 +132,6 @@ order-met = all-accepted T sevens morning cleared morning-sized sevens cleared o
 
 -- ---- A caller's log
 
--- what the rules give back and leave meets a call's contract
-met : (t : Settings) (call : Call) (counters slots : List ℕ)
-    → let u = act t call (lent counters slots) in Ensured t call counters slots (u .refusal) (u .memory .counters) (u .memory .slots)
-unfolding act
-met t Clear counters slots = refl
-met t (Add p L hop) counters slots = refl
-met t (Withdraw p L) counters slots = refl
-met t (Change p L hop) counters slots = refl
-
 -- these calls can be made
 record Run (t : Settings) (counters slots : List ℕ) (calls : List Call) : Type 0 where
   log : List Made
@@ -183,27 +175,27 @@ day-served = record {
 abbrev word : ℕ → List Val
 word n = vint w32 n ∷ []
 
-settings-good : Is (row the-type) T (val the-type the-laws T ∷ [])
+pub settings-good : Is (row the-type) T (val the-type the-laws T ∷ [])
 settings-good = (
   (word 2, (word 4, (word 1, (word 2, (word 1, (word 2, (word 1, tt))))))),
   (refl, ((refl, lit< tt), ((refl, lit< tt), ((refl, lit< tt), ((refl, lit< tt), ((refl, lit< tt), ((refl, lit< tt), ((refl, lit< tt), tt)))))))),
 )
 
 -- a list as it is lent
-abbrev lending : List ℕ → RefT (List ℕ)
+abbrev pub lending : List ℕ → RefT (List ℕ)
 lending xs = record { ptr = (0, 0); name = 0; now = xs }
 
 abbrev lifetimes : Lfts 2
 lifetimes = ([], ([], tt))
 
 -- the memory cleared, and with 10/8 added
-abbrev empty : Memory
+abbrev pub empty : Memory
 empty = clear T sevens .memory
 
 abbrev one : Memory
 one = add T empty (ip 10 0 0 0) 8 7 .memory
 
-clear-called : Called T Clear (sevens .counters) (sevens .slots) 0 (empty .counters) (empty .slots)
+pub clear-called : Called T Clear (sevens .counters) (sevens .slots) 0 (empty .counters) (empty .slots)
 unfolding computing
 clear-called = ClearCalled lifetimes (T, (lending (sevens .counters), (lending (sevens .slots), tt))) 0 (T, (lending (empty .counters), (lending (empty .slots), tt)))
     (settings-good, ((lit< tt, lit< tt), ((lit< tt, lit< tt), tt))) refl

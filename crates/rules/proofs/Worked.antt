@@ -15,7 +15,7 @@ abbrev pub ip : (a b c d : ℕ) → ℕ
 ip a b c d = a * 2 ^ 24 + b * 2 ^ 16 + c * 2 ^ 8 + d
 
 -- K, D, E, S, A, B, C
-abbrev settings : (k d e s a b c : ℕ) → Settings
+abbrev pub settings : (k d e s a b c : ℕ) → Settings
 settings k d e s a b c = record { k = k; d = d; e = e; s = s; a = a; b = b; c = c }
 
 abbrev pub T : Settings
@@ -26,7 +26,7 @@ abbrev Z : (k s : ℕ) → Settings
 Z k s = settings k 4 0 s 0 0 0
 
 -- a table cleared under these settings, whose memory held sevens
-abbrev empty : Settings → Memory
+abbrev pub empty : Settings → Memory
 empty t = clear t (record { counters = replicate (counters-size t) 7; slots = replicate (slots-size t) 7 }) .memory
 
 -- the tables of the cases, each with one route more
@@ -119,11 +119,11 @@ abbrev counters-at : Memory → (positions : List ℕ) → List ℕ
 counters-at m = map (λ j. getD (m .counters) (counter-place U 16 j) 0)
 
 -- an answer's figures, in the order of the rules: refusal, found, hop, length, probes
-abbrev figures : Answer → List ℕ
+abbrev pub figures : Answer → List ℕ
 figures r = r .refusal ∷ one-if (r .found) ∷ r .hop ∷ r .length ∷ r .probes ∷ []
 
 -- found, with hop, length and probes
-abbrev finds : (hop L probes : ℕ) → List ℕ
+abbrev pub finds : (hop L probes : ℕ) → List ℕ
 finds hop L probes = 0 ∷ 1 ∷ hop ∷ L ∷ probes ∷ []
 
 -- none, with the probes made
@@ -135,11 +135,11 @@ abbrev asked : List ℕ
 asked = ip 8 1 2 3 ∷ ip 10 1 2 3 ∷ ip 10 2 2 3 ∷ ip 11 0 0 1 ∷ []
 
 -- so many results before the call
-abbrev sevens : (n : ℕ) → List ℕ
+abbrev pub sevens : (n : ℕ) → List ℕ
 sevens n = replicate n 7
 
 -- what a list of addresses is given back, and its results
-abbrev told : Listed → List ℕ
+abbrev pub told : Listed → List ℕ
 told l = l .refusal ∷ l .results
 
 -- so it is from C, over these bytes, with the table of P5 to P7
@@ -147,11 +147,11 @@ abbrev told-c : (addresses results : List ℕ) → List ℕ
 told-c addresses results = told (c-lookup-list T (ten-one .counters) (bytes-of (ten-one .slots)) addresses results)
 
 -- what the rules give in a case, and what is said of it
-record Case : Type 0 where
-  gives : List ℕ
-  says : List ℕ
+pub record Case : Type 0 where
+  pub gives : List ℕ
+  pub says : List ℕ
 
-abbrev case : (gives says : List ℕ) → Case
+abbrev pub case : (gives says : List ℕ) → Case
 case gives says = record { gives = gives; says = says }
 
 worked : List Case
@@ -322,7 +322,7 @@ same (x ∷ xs) [] = false
 same (x ∷ xs) (y ∷ ys) = eqb x y && same xs ys
 
 -- each case comes out as it is said
-come-out : List Case → Bool
+unfoldable pub come-out : List Case → Bool
 come-out [] = true
 come-out (c ∷ cs) = same (c .gives) (c .says) && come-out cs
 

@@ -2,15 +2,9 @@
 // No call requires anything: bad input gets its number and changes nothing.
 ghost use mathlib.Core.Path.{_≡_};
 ghost use Rattle.rules.specs.Table.{lent, left, clear, add, withdraw, change, match-vector, lookup, lookup-list, answered};
-use buckets::Vacancy;
-use buckets::put_default;
 use buckets::put_slot;
 use buckets::search_bucket;
 use defaults::change_default;
-use filters::Step;
-use filters::cannot_step;
-use filters::places_of;
-use filters::step_each;
 use hops::answer_refused;
 use lookups::answer_in_words;
 use lookups::list_in_words;
@@ -22,6 +16,8 @@ use rules::Place;
 use rules::Settings;
 use rules::Vector;
 use settings::refuse_memory;
+use updates::add_checked;
+use updates::withdraw_checked;
 use vectors::vector_of;
 use zeros::zero_bytes;
 use zeros::zero_words;
@@ -55,31 +51,7 @@ pub fn add(
     if refusal != 0 {
         return refusal;
     }
-    if length == 0 {
-        put_default(settings, slots, hop + 1);
-        return 0;
-    }
-    let found = search_bucket(settings, slots, p, length);
-    let place = found.place;
-    if let Place::At {
-        slot: held,
-        length: _,
-        probes: _,
-    } = place {
-        put_slot(slots, held, p, hop + 1);
-        return 0;
-    }
-    let vacancy = found.vacancy;
-    let Vacancy::At(free) = vacancy else {
-        return 8;
-    };
-    let places = places_of(settings, p, length);
-    if cannot_step(settings, counters, &places, Step::Raise) {
-        return 9;
-    }
-    put_slot(slots, free, p, hop + 1);
-    step_each(settings, counters, &places, Step::Raise);
-    0
+    add_checked(settings, counters, slots, p, length, hop)
 }
 
 // Takes a stored route out.
@@ -96,26 +68,7 @@ pub fn withdraw(
     if refusal != 0 {
         return refusal;
     }
-    if length == 0 {
-        return change_default(settings, slots, 0);
-    }
-    let found = search_bucket(settings, slots, p, length);
-    let place = found.place;
-    let Place::At {
-        slot,
-        length: _,
-        probes: _,
-    } = place
-    else {
-        return 7;
-    };
-    let places = places_of(settings, p, length);
-    if cannot_step(settings, counters, &places, Step::Lower) {
-        return 10;
-    }
-    put_slot(slots, slot, 0, 0);
-    step_each(settings, counters, &places, Step::Lower);
-    0
+    withdraw_checked(settings, counters, slots, p, length)
 }
 
 // Gives a stored route a new next hop.

@@ -1,0 +1,24 @@
+-- What the updates count on is what the rules' checks 1 to 4, and 5 with a hop, tell where they pass.
+use Prim.Native.Nat.{ℕ, _≤_}
+use mathlib.Core.List.{List}
+use Rattle.rules.specs.declared.Settings.{Settings}
+use Rattle.rules.proofs.Refusals.{RouteFitted, HopFitted}
+use Rattle.updates.specs.Checked.{Checked}
+
+module _ {t : Settings} {counters slots : List ℕ} {L p : ℕ} where
+  pub checked : RouteFitted t counters slots L p → Checked t counters slots L p
+  checked f =
+      record {
+        range = f .memory .range;
+        counters-fit = f .memory .counters-fit;
+        slots-fit = f .memory .slots-fit;
+        high = f .high;
+        tight = f .tight;
+      }
+
+  pub route-fitted : Checked t counters slots L p → RouteFitted t counters slots L p
+  route-fitted c =
+      record { memory = record { range = c .range; counters-fit = c .counters-fit; slots-fit = c .slots-fit }; high = c .high; tight = c .tight }
+
+  pub hop-fitted : {hop : ℕ} → Checked t counters slots L p → hop ≤ 65535 → HopFitted t counters slots L p hop
+  hop-fitted c small = record { route = route-fitted c; small = small }

@@ -1,0 +1,2 @@
+-- What the contracts of the updates cite.
+pub mod Checked
