@@ -1,0 +1,7 @@
+-- The laws that other crates cite, and the worked cases.
+pub mod Alone
+pub mod Counting
+pub mod Octets
+pub mod Walks
+pub mod Worked
+pub mod Written
