@@ -1,0 +1,2 @@
+-- The laws of a cursor's step.
+pub mod Steps

@@ -1,0 +1,2 @@
+-- What a cursor's step gives.
+pub mod Steps
