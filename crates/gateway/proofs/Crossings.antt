@@ -1,10 +1,12 @@
--- From what a call of the table ensures to what crosses to C: one law for every update, and one for a list of addresses.
+-- From what a call of the table ensures to what crosses to C: one law for every update, one for what is lent to be written alone, and one for a message.
 use Prim.Native.Nat.{ℕ, _*_, _^_}
 use mathlib.Core.Path.{_≡_, refl}
 use mathlib.Core.List.{List}
 use Rattle.rules.specs.Table.{Update, left, Listed, answered}
-use Rattle.numbers.specs.Fitting.{RefusalFits}
-use Rattle.gateway.specs.Crossing.{Crossed, ListCrossed}
+use Rattle.messages.specs.declared.Report.{Report}
+use Rattle.messages.specs.Reading.{Read, reported, report-number}
+use Rattle.numbers.specs.Fitting.{RefusalFits, CountsFit}
+use Rattle.gateway.specs.Crossing.{Crossed, ListCrossed, MessageCrossed}
 
 module _ {u : Update} {refusal : ℕ} {counters slots : List ℕ} (ensured : u ≡ left refusal counters slots) where
   pub fits-above : RefusalFits (u .refusal) → RefusalFits refusal
@@ -19,3 +21,10 @@ module _ {l : Listed} {refusal : ℕ} {results : List ℕ} (ensured : l ≡ answ
 
   pub list-crossed : {answer : ℕ} → answer ≡ refusal * 2 ^ 48 → ListCrossed l answer results
   list-crossed number = rw ensured (record { number = number; results = refl })
+
+module _ {u : Read} {report : Report} {counters slots : List ℕ} (ensured : u ≡ reported report counters slots) where
+  pub counts-fit-above : CountsFit (u .report) → CountsFit report
+  counts-fit-above fits = rw ensured at fits
+
+  pub message-crossed : {answer : ℕ} → answer ≡ report-number report → MessageCrossed u answer counters slots
+  message-crossed number = rw ensured (record { number = number; memory = refl })

@@ -15,6 +15,8 @@ use Rattle.gateway.proofs.gateway_change.Reads as change
 use Rattle.gateway.proofs.gateway_match_vector.Reads as match-vector
 use Rattle.gateway.proofs.gateway_lookup.Reads as lookup
 use Rattle.gateway.proofs.gateway_lookup_list.Reads as lookup-list
+use Rattle.gateway.proofs.gateway_update.Reads as update
+use Rattle.gateway.proofs.gateway_write_withdrawal.Reads as write-withdrawal
 
 -- the two lists that an update leaves stand after the seven settings
 alike : (u : Update) {r q : ℕ} {counters bytes slots words : List ℕ} → Crossed u r counters slots → Crossed u q bytes words
@@ -48,3 +50,13 @@ lookup-determined κs a r q s e one other = one ∙ sym other
 pub lookup-list-determined : (κs : Lfts 4) (a : _) (r q : _) (s e : _) → lookup-list.Post κs a r s → lookup-list.Post κs a q e
     → (r ≡ q) × (now (past s .1 .1 .1 .0) ≡ now (past e .1 .1 .1 .0))
 lookup-list-determined κs a r q s e one other = (one .number ∙ sym (other .number), one .results ∙ sym (other .results))
+
+pub update-determined : (κs : Lfts 4) (a : _) (r q : _) (s e : _) → update.Post κs a r s → update.Post κs a q e
+    → (r ≡ q) × ((now (past s .0) ≡ now (past e .0)) × (now (past s .1 .0) ≡ now (past e .1 .0)))
+update-determined κs a r q s e one other =
+    let same = one .memory ∙ sym (other .memory) in
+    (one .number ∙ sym (other .number), (ap (λ (m : Memory). m .counters) same, ap (λ (m : Memory). m .slots) same))
+
+pub write-withdrawal-determined : (κs : Lfts 1) (a : _) (r q : _) (s e : _) → write-withdrawal.Post κs a r s → write-withdrawal.Post κs a q e
+    → (r ≡ q) × (now (s .1 .1 .0) ≡ now (e .1 .1 .0))
+write-withdrawal-determined κs a r q s e one other = (one .number ∙ sym (other .number), one .results ∙ sym (other .results))

@@ -17,7 +17,10 @@ use Rattle.rules.specs.Table.{prefix, occupied, hop-of, default-mark, holds, he
 use Rattle.rules.proofs.Marks.{hop-high}
 use Rattle.rules.proofs.Members.{both}
 use Rattle.rules.proofs.Lowest.{some-lowest}
-use Rattle.numbers.specs.Fitting.{refusals-end, RefusalFits, Fits}
+use Rattle.messages.specs.Reading.{message-refusal, read-routes, counts, refused-message, update as do-message}
+use Rattle.messages.specs.Writing.{writing-refusal, write-withdrawal}
+use Rattle.messages.proofs.Counting.{counts-fit}
+use Rattle.numbers.specs.Fitting.{refusals-end, RefusalFits, Fits, CountsFit}
 
 -- ---- Refusals
 
@@ -55,9 +58,29 @@ pub list-fits : (t : Settings) (counters slots addresses results : List ℕ) →
 unfolding c-lookup-list listed c-list-refusal list-refusal memory-refusal
 list-fits t counters slots addresses results = search (refuse-fits, none-fits) depth 20
 
+pub writing-fits : (p L : ℕ) (room : List ℕ) → RefusalFits (write-withdrawal p L room .refusal)
+unfolding write-withdrawal listed writing-refusal
+writing-fits p L room = search (refuse-fits, none-fits) depth 20
+
 pub vector-fits : (t : Settings) (m : Memory) (address : ℕ) → RefusalFits (match-vector t m address .refusal)
 unfolding match-vector
 vector-fits t m address = memory-fits t m
+
+-- ---- Reports
+
+number-fits : (t : Settings) (m : Memory) (message hops : List ℕ) → RefusalFits (message-refusal t m message hops)
+unfolding message-refusal memory-refusal
+number-fits t m message hops = search (refuse-fits, none-fits) depth 20
+
+pub message-fits : (t : Settings) (m : Memory) (message hops : List ℕ) → CountsFit (do-message t m message hops .report)
+unfolding do-message counts refused-message
+message-fits t m message hops =
+    let fit = counts-fit t m message hops in
+    record { refusal = go (eqb (message-refusal t m message hops) 0); accepted = fit .0; refused = fit .1 }
+  where
+    go : (b : Bool) → RefusalFits (cond b (counts (read-routes t m message hops)) (refused-message (message-refusal t m message hops) m) .report .refusal)
+    go true = none-fits
+    go false = number-fits t m message hops
 
 -- ---- Answers
 

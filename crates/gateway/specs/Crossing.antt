@@ -4,6 +4,7 @@ use mathlib.Core.List.{List}
 use mathlib.Core.Path.{_≡_}
 use Rattle.rules.specs.declared.Settings.{Settings}
 use Rattle.rules.specs.Table.{Update, lent, Listed}
+use Rattle.messages.specs.Reading.{Read, report-number}
 
 -- the seven numbers that come first in every call
 abbrev pub settings-of : (k d e s a b c : ℕ) → Settings
@@ -18,3 +19,8 @@ pub record Crossed (u : Update) (answer : ℕ) (counters slots : List ℕ) : Typ
 pub record ListCrossed (l : Listed) (answer : ℕ) (bytes : List ℕ) : Type 0 where
   pub number : answer ≡ l .refusal * 2 ^ 48
   pub results : bytes ≡ l .results
+
+-- what a message gives back and leaves: refusal·2^48 + refused·2^12 + accepted, the counters and the slots
+pub record MessageCrossed (u : Read) (answer : ℕ) (counters slots : List ℕ) : Type 0 where
+  pub number : answer ≡ report-number (u .report)
+  pub memory : lent counters slots ≡ u .memory

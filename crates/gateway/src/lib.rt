@@ -1,14 +1,17 @@
-// The gateway table for C: seven calls on numbers and lent memory. No call requires anything, keeps
+// The gateway table for C: nine calls on numbers and lent memory. No call requires anything, keeps
 // anything or copies the memory. Questions read the slots as bytes, four to a word, the
 // low byte first; the updates write them as words of the machine. What a C program may rely on is
-// proved in crates/c_promises.
+// proved in crates/c_promises and, of messages, in crates/message_promises.
 ghost use mathlib.Core.Path.{_≡_};
 ghost use Rattle.rules.specs.Table.{lent, words, memory-refusal, lookup, match-vector, c-lookup, c-match-vector, answered, c-lookup-list, clear, add, withdraw, change};
-ghost use Rattle.gateway.specs.Crossing.{settings-of, Crossed, ListCrossed};
+ghost use Rattle.messages.specs.Reading.{update};
+ghost use Rattle.messages.specs.Writing.{write-withdrawal};
+ghost use Rattle.gateway.specs.Crossing.{settings-of, Crossed, ListCrossed, MessageCrossed};
 use hops::answer_refused;
 use lookups::answer_in_bytes;
 use lookups::list_in_bytes;
 use numbers::number_of_answer;
+use numbers::number_of_report;
 use numbers::number_of_vector;
 use numbers::refusal_part;
 use refusals::refuse_list;
@@ -19,7 +22,7 @@ use settings::refuse_sizes;
 use vectors::vector_of;
 use words::word_count;
 
-// The seven numbers that come first in every call, as settings.
+// The seven numbers that come first in every call on a table, as settings.
 fn settings_of(k: u32, d: u32, e: u32, s: u32, a: u32, b: u32, c: u32) -> Settings
     ensures { λ r. ⌜ r ≡ settings-of k d e s a b c ⌝ }
 {
@@ -240,4 +243,33 @@ pub extern "C" fn gateway_lookup_list(
 {
     let settings = settings_of(k, d, e, s, a, b, c);
     refusal_part(lookup_list(settings, counters, slots, addresses, results))
+}
+
+// Does one message of a neighbour: refusal·2^48 + refused·2^12 + accepted.
+#[no_mangle]
+pub extern "C" fn gateway_update(
+    k: u32,
+    d: u32,
+    e: u32,
+    s: u32,
+    a: u32,
+    b: u32,
+    c: u32,
+    counters: &mut [u8],
+    slots: &mut [u32],
+    message: &[u8],
+    hops: &[u32],
+) -> u64
+    ensures { λ r. ⌜ MessageCrossed (update (settings-of k d e s a b c) (lent (now (counters .entry)) (now (slots .entry))) (now (message .entry)) (now (hops .entry))) r (now (counters .exit)) (now (slots .exit)) ⌝ }
+{
+    let settings = settings_of(k, d, e, s, a, b, c);
+    number_of_report(neighbours::update(settings, counters, slots, message, hops))
+}
+
+// Writes the message that withdraws a route, into room of exactly its size.
+#[no_mangle]
+pub extern "C" fn gateway_write_withdrawal(prefix: u32, length: u32, room: &mut [u8]) -> u64
+    ensures { λ r. ⌜ ListCrossed (write-withdrawal prefix length (now (room .entry))) r (now (room .exit)) ⌝ }
+{
+    refusal_part(writers::write_withdrawal(prefix, length, room))
 }

@@ -2,8 +2,10 @@
 ghost use mathlib.Core.Path.{_≡_};
 ghost use Prim.Native.Nat.{_*_, _^_};
 ghost use Rattle.rules.specs.Table.{answer-number, vector-number};
-ghost use Rattle.numbers.specs.Fitting.{RefusalFits, Fits};
+ghost use Rattle.messages.specs.Reading.{report-number};
+ghost use Rattle.numbers.specs.Fitting.{RefusalFits, Fits, CountsFit};
 use hops::one_if;
+use messages::Report;
 use rules::Answer;
 use rules::Vector;
 
@@ -32,4 +34,13 @@ pub fn number_of_vector(vector: Vector) -> u64
     ensures { λ r. ⌜ r ≡ vector-number vector ⌝ }
 {
     refusal_part(vector.refusal) + vector.vector as u64
+}
+
+// The report of a message as one number.
+pub fn number_of_report(report: Report) -> u64
+    requires { ⌜ CountsFit report ⌝ }
+    ensures { λ r. ⌜ r ≡ report-number report ⌝ }
+{
+    let refused = (report.refused as u64) * 0x1000;
+    refusal_part(report.refusal) + refused + report.accepted as u64
 }

@@ -1,0 +1,25 @@
+-- The number and the memory are those of the message.
+use borrow.Author.Needs.{needs}
+use Rattle.gateway.proofs.Crossings.{counts-fit-above, message-crossed}
+use Rattle.gateway.proofs.Fitting.{message-fits}
+use Rattle.gateway.proofs.gateway_update.Statement.{statement}
+use Rattle.gateway.proofs.gateway_update.Tie as tie
+
+number-of-report-requires : tie.Need-number-of-report-requires
+number-of-report-requires c κs = counts-fit-above (c .before .before .before .before .update .ensures) (message-fits _ _ _ _)
+
+returns : tie.Need-returns
+returns c =
+    let call = c .before .before .before .before .before in
+    rw (call .before .before .before .settings-of .ensures) at (message-crossed (call .update .ensures) (c .number-of-report .ensures))
+
+pub gateway-update-spec : {M : Type 1} → statement M
+gateway-update-spec =
+    tie.close
+    (tie.spec
+    (λ c κs. search needs)
+    (λ c κs. search needs)
+    number-of-report-requires
+    (λ c. search needs)
+    (λ c. search needs)
+    returns)

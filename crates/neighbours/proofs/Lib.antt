@@ -1,0 +1,4 @@
+-- The laws of a walk, and of a whole message.
+pub mod Determined
+pub mod Going
+pub mod Whole
