@@ -7,8 +7,9 @@
  *
  * A request is sixteen numbers of 64 bits: the call, k, d, e, s, a, b, c, where the counters begin in
  * the file and how many are lent, the same of the slots, then what the call has beside them: for a list
- * where its addresses begin and how many bytes they have, and the same of its results. An answer is one
- * such number.
+ * where its addresses begin and how many bytes they have, and the same of its results; for a message the
+ * same of its bytes and of the words of its next hops; for a withdrawal to be written prefix and length, and
+ * the same of its room. An answer is one such number.
  */
 #define _XOPEN_SOURCE 600
 
@@ -23,7 +24,7 @@
 #include <sys/time.h>
 #include <unistd.h>
 
-enum { CLEAR, ADD, WITHDRAW, CHANGE, VECTOR, LOOKUP, LOOKUP_LIST };
+enum { CLEAR, ADD, WITHDRAW, CHANGE, VECTOR, LOOKUP, LOOKUP_LIST, UPDATE, WRITE_WITHDRAWAL };
 
 enum { NUMBERS = 16, SECONDS_TO_END = 20, CALLS_BETWEEN = 256 };
 
@@ -50,6 +51,10 @@ static uint64_t answer(uint8_t *memory, const uint64_t n[NUMBERS])
     case LOOKUP_LIST:
         return gateway_lookup_list(k, d, e, s, a, b, c, counters, n[9], bytes, n[11], memory + n[12], n[13],
                                    memory + n[14], n[15]);
+    case UPDATE:
+        return gateway_update(k, d, e, s, a, b, c, counters, n[9], words, n[11], memory + n[12], n[13],
+                              (const uint32_t *)(void *)(memory + n[14]), n[15]);
+    case WRITE_WITHDRAWAL: return gateway_write_withdrawal(asked, length, memory + n[14], n[15]);
     default: errno = EINVAL; fail("an unknown call"); return 0;
     }
 }

@@ -45,19 +45,43 @@ pub struct List {
     pub results_offset: usize,
 }
 
-/// A call of either kind.
+/// A message of a neighbour, which begins so many bytes after a word's address, and the list of next hops,
+/// which begins so many words after its place.
+#[derive(Clone, Debug)]
+pub struct Message {
+    pub bytes: Vec<u8>,
+    pub offset: usize,
+    pub hops: Vec<u32>,
+    pub hops_offset: usize,
+}
+
+/// The message that withdraws a route, to be written into room that begins so many bytes after a word's
+/// address. No table is lent.
+#[derive(Clone, Debug)]
+pub struct Writing {
+    pub prefix: u32,
+    pub length: u32,
+    /// What the room holds before the call.
+    pub room: Vec<u8>,
+    pub offset: usize,
+}
+
+/// A call of any kind.
 #[derive(Clone, Copy)]
 pub enum AnyCall<'a> {
     One(Call),
     List(&'a List),
+    Message(&'a Message),
+    Writing(&'a Writing),
 }
 
 impl AnyCall<'_> {
-    /// As above; a list is a question too.
+    /// As above; a list is a question too, and a message an update.
     pub fn units(&self) -> usize {
         match self {
             AnyCall::One(call) => call.units(),
             AnyCall::List(_) => 4,
+            AnyCall::Message(_) | AnyCall::Writing(_) => 1,
         }
     }
 }
@@ -71,6 +95,18 @@ impl From<Call> for AnyCall<'_> {
 impl<'a> From<&'a List> for AnyCall<'a> {
     fn from(list: &'a List) -> Self {
         AnyCall::List(list)
+    }
+}
+
+impl<'a> From<&'a Message> for AnyCall<'a> {
+    fn from(message: &'a Message) -> Self {
+        AnyCall::Message(message)
+    }
+}
+
+impl<'a> From<&'a Writing> for AnyCall<'a> {
+    fn from(writing: &'a Writing) -> Self {
+        AnyCall::Writing(writing)
     }
 }
 

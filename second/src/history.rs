@@ -1,10 +1,11 @@
 //! Random histories. A seed and a number fix a history, so that a failing one can be replayed.
 
-use crate::calls::{AnyCall, Call, Lent, Settings};
+use crate::calls::{AnyCall, Call, Lent, Message, Settings};
 use crate::library::{Area, Library, MARGIN};
 use crate::pair::{Difference, Pair};
 use crate::random::Random;
 use crate::random_lists;
+use crate::random_messages::{self, Source};
 use crate::replacing;
 use crate::routes::Routes;
 use crate::rules;
@@ -38,8 +39,15 @@ const MOST_ROUTES: usize = 4000;
 /// So many histories of a hundred bring counters to 15 and keep them there.
 const CROWDED: usize = 12;
 
-/// So many calls of a thousand have a list of addresses.
+/// So many calls of a thousand have a list of addresses, have a message, or write a withdrawal.
 const LISTS: usize = 15;
+const MESSAGES: usize = 10;
+const WRITINGS: usize = 5;
+
+/// One history of so many, the first of all among them, has more of the last two: so many.
+const TALKATIVE: u64 = 8;
+const TALKATIVE_MESSAGES: usize = 500;
+const TALKATIVE_WRITINGS: usize = 100;
 
 /// How the history runs: what is got wrong on purpose, and whether each call is shown.
 #[derive(Clone, Copy)]
@@ -56,6 +64,8 @@ struct History<'a> {
     t: Settings,
     pool: Vec<(u32, u32)>,
     adds: usize,
+    messages: usize,
+    writings: usize,
     made: u64,
 }
 
@@ -72,8 +82,12 @@ pub fn run(
     let t = settings(&mut random, crowded);
     let pool = pool(&mut random, crowded);
     let adds = random.pick(&[35, 50, 65, 80]);
+    let (messages, writings) = match history % TALKATIVE {
+        0 => (TALKATIVE_MESSAGES, TALKATIVE_WRITINGS),
+        _ => (MESSAGES, WRITINGS),
+    };
     tally.histories += 1;
-    History { library, random, manner, tally, t, pool, adds, made: 0 }.run()
+    History { library, random, manner, tally, t, pool, adds, messages, writings, made: 0 }.run()
 }
 
 /// Settings over their whole ranges, the small tables oftener.
@@ -141,6 +155,11 @@ fn pool(random: &mut Random, crowded: bool) -> Vec<(u32, u32)> {
     pool
 }
 
+/// What a message's routes are drawn from.
+fn source<'a>(pool: &'a [(u32, u32)], pair: &'a Pair) -> Source<'a> {
+    Source { pool, stored: pair.routes.as_ref().map_or(&[], |routes| routes.list()) }
+}
+
 /// An address that a route of the pool matches, or nearly.
 fn random_address(random: &mut Random, pool: &[(u32, u32)]) -> u32 {
     let (prefix, length) = random.pick(pool);
@@ -177,14 +196,20 @@ impl History<'_> {
             } else if made > damaged_from && self.random.percent(4) {
                 self.damage(&mut pair);
             }
-            if self.random.below(1000) < LISTS {
-                self.list_call(&mut pair, made > damaged_from)?;
+            let damaged = made > damaged_from;
+            let chance = self.random.below(1000);
+            if chance < LISTS + self.messages + self.writings {
+                match chance {
+                    0..LISTS => self.list_call(&mut pair, damaged)?,
+                    _ if chance < LISTS + self.messages => self.message_call(&mut pair, damaged)?,
+                    _ => self.write(&mut pair)?,
+                }
                 continue;
             }
             let call = self.random_call(&pair);
             if self.random.percent(9) {
                 self.spoilt_call(&mut pair, call)?;
-            } else if made > damaged_from && self.random.percent(5) {
+            } else if damaged && self.random.percent(5) {
                 let t = self.other_settings();
                 let lent = pair.lent(call);
                 self.call_with(&mut pair, &t, lent, call)?;
@@ -244,6 +269,8 @@ impl History<'_> {
             AnyCall::List(list) => {
                 (None, pair.call_list(self.library, t, lent, list).map(|listed| listed.answer))
             }
+            AnyCall::Message(message) => (None, pair.call_message(self.library, t, lent, message)),
+            AnyCall::Writing(writing) => (None, pair.write(self.library, writing)),
         };
         let answer = answered.map_err(|difference| self.failure(t, lent, call, difference))?;
         if self.manner.show {
@@ -356,6 +383,38 @@ impl History<'_> {
         if self.random.percent(6) {
             self.ask_unaligned(pair, &list)?;
         }
+        Ok(())
+    }
+
+    /// A message of a neighbour; every other one has something wrong about it.
+    fn message_call(&mut self, pair: &mut Pair, damaged: bool) -> Result<(), Failure> {
+        let spoilt = self.random.percent(50);
+        let source = source(&self.pool, pair);
+        let message = random_messages::message(&mut self.random, &source, spoilt);
+        let right = pair.lent(&message);
+        let (mut t, mut lent) = (self.t, right);
+        if self.random.percent(7) {
+            for _ in 0..self.random.within(1, 3) {
+                self.spoil_table(right, &mut t, &mut lent);
+            }
+        } else if damaged && self.random.percent(5) {
+            t = self.other_settings();
+        }
+        self.call_with(pair, &t, lent, &message)?;
+        Ok(())
+    }
+
+    /// The message that withdraws a route; what was written is then a message too.
+    fn write(&mut self, pair: &mut Pair) -> Result<(), Failure> {
+        let writing = random_messages::writing(&mut self.random, &source(&self.pool, pair));
+        let lent = pair.lent(&writing);
+        let t = self.t;
+        if self.call_with(pair, &t, lent, &writing)? != 0 {
+            return Ok(());
+        }
+        let bytes = self.library.room(&writing).to_vec();
+        let message = Message { bytes, offset: writing.offset, hops: Vec::new(), hops_offset: 0 };
+        self.call_with(pair, &t, lent, &message)?;
         Ok(())
     }
 

@@ -2,14 +2,14 @@
 //! the same memory, so that what the library writes is seen here, and a call that brings that process
 //! down is told as any other difference.
 
-use crate::calls::{AnyCall, Call, Lent, Settings};
+use crate::calls::{AnyCall, Call, Lent, Settings, Writing};
 use std::fs::{self, File, OpenOptions};
 use std::io::{self, Read, Write};
 use std::os::fd::AsRawFd;
 use std::path::Path;
 use std::process::{Child, ChildStdin, ChildStdout, Command, Stdio};
 
-/// Bytes before and after the counters, a list's addresses and its results, and words before and after the
+/// Bytes before and after the counters and all that is lent beside a table, and words before and after the
 /// slots, that nothing may touch. They leave room for a call that is told of more memory than its table has.
 pub const MARGIN: usize = 64;
 
@@ -21,16 +21,28 @@ const MOST_SLOTS: usize = 64 * (1 << 8) * 8 + 1 + 2 * MARGIN;
 const AREA: usize = (MOST_COUNTERS + 4 * MOST_SLOTS).next_multiple_of(4096);
 const AREAS: usize = 3;
 
-/// How many addresses the longest list has. There is room for their bytes, and twice the room for its
-/// results, since a list may be told of more than it needs.
+/// How many addresses the longest list has, how many bytes the longest message, and how many words the
+/// longest list of next hops.
 pub const MOST_LISTED: usize = 5000;
-const MOST_ADDRESSES: usize = (4 * MOST_LISTED + 2 * MARGIN).next_multiple_of(4096);
-const MOST_RESULTS: usize = (32 * MOST_LISTED + 2 * MARGIN).next_multiple_of(4096);
+pub const MOST_MESSAGE: usize = 65_536 + 4096;
+pub const MOST_HOPS: usize = 65_536 + 512;
 
-/// Where in the memory a list's addresses and results lie, and where it ends.
-const ADDRESSES: usize = AREAS * AREA;
-const RESULTS: usize = ADDRESSES + MOST_ADDRESSES;
-const END: usize = RESULTS + MOST_RESULTS;
+/// What a call is lent beside its table.
+#[derive(Clone, Copy)]
+pub enum Beside {
+    Addresses,
+    Results,
+    Message,
+    Hops,
+    Room,
+}
+
+/// Room for the largest of them, with its margins and a few bytes more. A list's results may be twice as many
+/// as it needs.
+const BESIDE: usize = (4 * MOST_HOPS + 3 * MARGIN).next_multiple_of(4096);
+
+/// Where the memory ends, with the last of them.
+const END: usize = AREAS * AREA + (Beside::Room as usize + 1) * BESIDE;
 
 /// Where a table lies in the memory that is lent: an old table, one that is built beside it, or a copy
 /// whose slots do not begin at a word's address.
@@ -121,18 +133,16 @@ impl Library {
         unsafe { std::slice::from_raw_parts_mut(words.as_mut_ptr().cast(), size) }
     }
 
-    /// So many bytes of a list's addresses, from their first margin on.
-    pub fn addresses(&mut self, offset: usize, size: usize) -> &mut [u8] {
-        assert!(offset + size <= MOST_ADDRESSES);
+    /// So many bytes of what is lent beside a table, from their first margin on.
+    pub fn beside(&mut self, which: Beside, offset: usize, size: usize) -> &mut [u8] {
+        assert!(offset + size <= BESIDE);
         // Safe: as above.
-        unsafe { std::slice::from_raw_parts_mut(self.memory.add(ADDRESSES + offset), size) }
+        unsafe { std::slice::from_raw_parts_mut(self.memory.add(place(which, offset)), size) }
     }
 
-    /// So many bytes of a list's results, from their first margin on.
-    pub fn results(&mut self, offset: usize, size: usize) -> &mut [u8] {
-        assert!(offset + size <= MOST_RESULTS);
-        // Safe: as above.
-        unsafe { std::slice::from_raw_parts_mut(self.memory.add(RESULTS + offset), size) }
+    /// The room of a withdrawal to be written.
+    pub fn room(&mut self, writing: &Writing) -> &[u8] {
+        self.beside(Beside::Room, MARGIN + writing.offset, writing.room.len())
     }
 
     /// Does a call in the library, on what is lent of an area after its margins.
@@ -161,9 +171,18 @@ impl Library {
         let (number, beside) = match call {
             AnyCall::One(call) => numbers(call),
             AnyCall::List(list) => {
-                let addresses = ADDRESSES + MARGIN + list.addresses_offset;
-                let results = RESULTS + MARGIN + list.results_offset;
+                let addresses = place(Beside::Addresses, MARGIN + list.addresses_offset);
+                let results = place(Beside::Results, MARGIN + list.results_offset);
                 (6, [addresses, list.addresses.len(), results, list.results.len()].map(|n| n as u64))
+            }
+            AnyCall::Message(message) => {
+                let bytes = place(Beside::Message, MARGIN + message.offset);
+                let hops = place(Beside::Hops, MARGIN + 4 * message.hops_offset);
+                (7, [bytes, message.bytes.len(), hops, message.hops.len()].map(|n| n as u64))
+            }
+            AnyCall::Writing(Writing { prefix, length, room, offset }) => {
+                let [room, size] = [place(Beside::Room, MARGIN + offset), room.len()].map(|n| n as u64);
+                (8, [u64::from(*prefix), u64::from(*length), room, size])
             }
         };
         let counters = area as usize * AREA + MARGIN;
@@ -186,6 +205,11 @@ impl Library {
         )?;
         Ok(u64::from_ne_bytes(answer))
     }
+}
+
+/// Where in the memory something lies that is lent beside a table.
+fn place(which: Beside, offset: usize) -> usize {
+    AREAS * AREA + which as usize * BESIDE + offset
 }
 
 /// A call's number, and what it is asked.

@@ -11,8 +11,10 @@ macro_rules! say {
     };
 }
 
+mod attributes;
 mod calls;
 mod cuts;
+mod draft;
 mod history;
 mod inputs;
 mod interrupt;
@@ -20,20 +22,28 @@ mod library;
 mod line_slips;
 mod lines;
 mod lists;
+mod message_tally;
+mod messages;
 mod pair;
 mod places;
 mod program;
 mod random;
 mod random_lines;
 mod random_lists;
+mod random_messages;
+mod reading;
+mod recorded;
 mod replacing;
 mod routes;
 mod rules;
 mod slips;
+mod spoilt_messages;
 mod tally;
 mod text;
 mod told;
 mod worked;
+mod worked_messages;
+mod writing;
 
 use history::Manner;
 use library::Library;
@@ -49,6 +59,7 @@ const USAGE: &str = "\
 usage: second [--seed N] [--calls N | --seconds N]   random histories, 500000 calls unless told
        second --seed N --history M [--show]          one history again; --show tells each call
        second --slips [--seed N]                     gets one rule wrong at a time: each must be found
+       second --recorded FILE                        messages of real daemons, with other programs' readings
        second --lines [--seed N] [--count N]         random lines to the text program, 6000 unless told
        second --lines --seed N --history M [--show]  one input of them again; --show tells each line
        second --lines --slips [--seed N]             as above, with the rules of the reader of lines
@@ -63,7 +74,8 @@ library; it is the host beside this one unless told.";
 /// How many lines are compared unless told.
 const LINES: u64 = 6000;
 
-/// From so many calls on, a run must have met every refusal and all that adds of stored prefixes can meet.
+/// From so many calls on, a run must have met every refusal, all that adds of stored prefixes can meet, and
+/// what messages can be and have wrong about them.
 const MANY_CALLS: u64 = 100_000;
 
 /// A slip that so many histories do not show is not found.
@@ -84,6 +96,7 @@ struct Options {
     lines: bool,
     answer: bool,
     cut: Option<String>,
+    recorded: Option<String>,
     host: Option<String>,
     command: Option<Vec<String>>,
 }
@@ -110,6 +123,10 @@ fn options() -> Result<Options, String> {
             }
             "--cut" => {
                 options.cut = Some(words.next().ok_or("--cut needs a file")?);
+                continue;
+            }
+            "--recorded" => {
+                options.recorded = Some(words.next().ok_or("--recorded needs a file")?);
                 continue;
             }
             "--host" => {
@@ -191,6 +208,9 @@ fn compare_calls(seed: u64, options: Options) -> bool {
             return false;
         }
     };
+    if let Some(file) = options.recorded {
+        return compare_recorded(&mut library, &file);
+    }
     match (options.slips, options.history) {
         (true, _) => find_slips(&mut library, seed),
         (_, Some(history)) => replay(&mut library, seed, history, options.show),
@@ -286,6 +306,18 @@ fn compare(library: &mut Library, seed: u64, calls: Option<u64>, seconds: Option
         }
         _ => true,
     }
+}
+
+/// Messages that were recorded.
+fn compare_recorded(library: &mut Library, file: &str) -> bool {
+    match recorded::compare(library, file) {
+        Ok(went) => say!("{went}, no difference"),
+        Err(difference) => {
+            say!("second: DIFFERENCE in {difference}");
+            return false;
+        }
+    }
+    true
 }
 
 /// Gets one of this program's own rules wrong at a time. Each time a difference must be found.

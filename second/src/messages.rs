@@ -1,7 +1,7 @@
 //! One UPDATE message on lent memory: what C gets, and what the table holds afterwards.
 //!
 //! `reading` says what stands in the message. Each route is done by a single call of `rules`, which is also
-//! asked for refusals 1 and 2. Slips are told as there: the arm `_` and the first value of `or` are right.
+//! asked for refusals 1 and 2. Slips are told as there: the arm `_` is right.
 
 use std::collections::BTreeSet;
 
@@ -54,15 +54,6 @@ struct Update<'a> {
 impl Update<'_> {
     fn is(&self, slip: Slip) -> bool {
         self.slip == Some(slip)
-    }
-
-    /// The right value, or the wrong one if the slip named is at work.
-    fn or<V>(&self, right: V, slip: Slip, wrong: V) -> V {
-        if self.is(slip) {
-            wrong
-        } else {
-            right
-        }
     }
 
     /// The first refusal whose condition holds, in the order 1, 2, 12, 13; 0 if none does.

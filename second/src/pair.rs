@@ -1,10 +1,11 @@
 //! One table twice: the library's memory and this program's own. Each call is done in both, and the
 //! answers and all of the memory are compared after it.
 
-use crate::calls::{AnyCall, Call, Lent, List, Settings};
-use crate::library::{Area, Library, MARGIN};
+use crate::calls::{AnyCall, Call, Lent, List, Message, Settings, Writing};
+use crate::library::{Area, Beside, Library, MARGIN};
 use crate::lists::answer_list;
-use crate::places::{places, Place};
+use crate::messages::{read, read_message, write_withdrawal, Said};
+use crate::places::{bytes_of, places, Place};
 use crate::routes::Routes;
 use crate::rules::{self, counter_bytes, slot_words};
 use crate::slips::Slip;
@@ -121,6 +122,50 @@ impl Pair {
         Ok(listed)
     }
 
+    /// The same with a message, of any bytes, and any list of next hops.
+    pub fn call_message(
+        &mut self,
+        library: &mut Library,
+        t: &Settings,
+        lent: Lent,
+        message: &Message,
+    ) -> Result<u64, Difference> {
+        let (bytes, hops) = (with_margins(&message.bytes), with_margins(&bytes_of(&message.hops)));
+        let hops_offset = 4 * message.hops_offset;
+        library.beside(Beside::Message, message.offset, bytes.len()).copy_from_slice(&bytes);
+        library.beside(Beside::Hops, hops_offset, hops.len()).copy_from_slice(&hops);
+        let theirs = library.call(self.area, t, lent, message)?;
+        let (counters, slots) = (&mut self.counters[MARGIN..], &mut self.slots[MARGIN..]);
+        let ours = read_message(t, counters, slots, lent, &message.bytes, &message.hops, self.slip);
+        same("answer", Answer::to(message, theirs), Answer::to(message, ours))?;
+        let lent_bytes = &*library.beside(Beside::Message, message.offset, bytes.len());
+        compare_lent("message byte", lent_bytes, &bytes)?;
+        compare_lent("next hop byte", library.beside(Beside::Hops, hops_offset, hops.len()), &hops)?;
+        self.compare_memory(library)?;
+        self.compare_single_calls(message, theirs)?;
+        Ok(theirs)
+    }
+
+    /// Writes the message that withdraws a route in both, and compares. What is written must be read as that
+    /// one withdrawal.
+    pub fn write(&self, library: &mut Library, writing: &Writing) -> Result<u64, Difference> {
+        let Writing { prefix, length, room, offset } = writing;
+        let lent_room = MARGIN..MARGIN + room.len();
+        let mut room = with_margins(room);
+        library.beside(Beside::Room, *offset, room.len()).copy_from_slice(&room);
+        let theirs = library.call(self.area, &self.t, self.lent(writing), writing)?;
+        let ours = write_withdrawal(*prefix, *length, &mut room[lent_room], self.slip);
+        same("answer", Answer::to(writing, theirs), Answer::to(writing, ours))?;
+        compare_lent("room byte", library.beside(Beside::Room, *offset, room.len()), &room)?;
+        let read_back = |said: Said| {
+            said.withdrawn == [(*prefix, *length)] && said.announced.is_empty() && said.next_hop.is_none()
+        };
+        if theirs == 0 && !read(library.room(writing)).is_ok_and(read_back) {
+            return Err(Difference("what is written is not read as that one withdrawal".to_string()));
+        }
+        Ok(theirs)
+    }
+
     /// Does a call in an area whose slots begin so many bytes after their place, and in this program's own
     /// memory, and compares the answers.
     fn call_in(
@@ -150,16 +195,18 @@ impl Pair {
         list: &List,
     ) -> Result<Listed, Difference> {
         let (addresses, mut results) = (with_margins(&list.addresses), with_margins(&list.results));
-        library.addresses(list.addresses_offset, addresses.len()).copy_from_slice(&addresses);
-        library.results(list.results_offset, results.len()).copy_from_slice(&results);
+        let (addresses_offset, results_offset) = (list.addresses_offset, list.results_offset);
+        library.beside(Beside::Addresses, addresses_offset, addresses.len()).copy_from_slice(&addresses);
+        library.beside(Beside::Results, results_offset, results.len()).copy_from_slice(&results);
         let answer = library.call_at(area, offset, t, lent, list)?;
         let (counters, slots) = (&mut self.counters[MARGIN..], &mut self.slots[MARGIN..]);
         let lent_results = MARGIN..MARGIN + list.results.len();
         let own = &mut results[lent_results.clone()];
         let ours = answer_list(t, counters, slots, lent, &list.addresses, own, self.slip);
         same("answer", Answer::to(list, answer), Answer::to(list, ours))?;
-        compare_lent("address byte", library.addresses(list.addresses_offset, addresses.len()), &addresses)?;
-        let theirs = &*library.results(list.results_offset, results.len());
+        let lent_addresses = &*library.beside(Beside::Addresses, addresses_offset, addresses.len());
+        compare_lent("address byte", lent_addresses, &addresses)?;
+        let theirs = &*library.beside(Beside::Results, results_offset, results.len());
         if answer == 0 {
             let ours = places(list, &results[lent_results.clone()]);
             for (theirs, ours) in places(list, &theirs[lent_results.clone()]).iter().zip(ours) {
@@ -187,6 +234,7 @@ impl Pair {
         let asked = match call {
             AnyCall::One(call) => self.call_in(library, Area::Unaligned, offset, &t, lent, call).err(),
             AnyCall::List(list) => self.list_in(library, Area::Unaligned, offset, &t, lent, list).err(),
+            AnyCall::Message(_) | AnyCall::Writing(_) => unreachable!("these are no questions"),
         };
         asked.map_or(Ok(()), |Difference(what)| Err(Difference(format!("on unaligned slots, {what}"))))
     }
@@ -211,6 +259,21 @@ impl Pair {
             update => routes.update(update) << 48,
         };
         same("answer, held to the list of stored routes", Answer::to(call, theirs), Answer::to(call, listed))
+    }
+
+    /// Holds an accepted message to the list of stored routes, in which its routes are single updates.
+    fn compare_single_calls(&mut self, message: &Message, theirs: u64) -> Result<(), Difference> {
+        let Some(routes) = self.routes.as_mut().filter(|_| theirs >> 48 == 0) else {
+            return Ok(());
+        };
+        let Some(calls) = single_calls(message) else {
+            return Err(Difference("a message is accepted that cannot be read".to_string()));
+        };
+        let all = calls.len();
+        let accepted = calls.into_iter().filter(|call| routes.update(*call) == 0).count();
+        let listed = ((all - accepted) << 12 | accepted) as u64;
+        let (theirs, listed) = (Answer::to(message, theirs), Answer::to(message, listed));
+        same("answer, held to the list of stored routes", theirs, listed)
     }
 
     /// Holds each answer of a list to the list of stored routes.
@@ -257,6 +320,18 @@ impl Pair {
         }
         Ok(())
     }
+}
+
+/// The single updates that a good message stands for, in their order.
+fn single_calls(message: &Message) -> Option<Vec<Call>> {
+    let said = read(&message.bytes).ok()?;
+    let withdraw = |(prefix, length): (u32, u32)| Call::Withdraw { prefix, length };
+    let mut calls: Vec<Call> = said.withdrawn.into_iter().map(withdraw).collect();
+    if !said.announced.is_empty() {
+        let hop = message.hops.iter().position(|hop| Some(*hop) == said.next_hop)? as u32;
+        calls.extend(said.announced.into_iter().map(|(prefix, length)| Call::Add { prefix, length, hop }));
+    }
+    Some(calls)
 }
 
 /// Bytes with margins whose content no call writes: a word of the results has zeros in its high bytes.

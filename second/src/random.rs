@@ -36,6 +36,12 @@ impl Random {
         self.below(100) < chance
     }
 
+    pub fn bytes(&mut self, size: usize) -> Vec<u8> {
+        let mut bytes: Vec<u8> = (0..size.div_ceil(8)).flat_map(|_| self.next().to_le_bytes()).collect();
+        bytes.truncate(size);
+        bytes
+    }
+
     pub fn pick<T: Copy>(&mut self, from: &[T]) -> T {
         from[self.below(from.len())]
     }

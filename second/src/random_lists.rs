@@ -30,7 +30,7 @@ pub fn list(random: &mut Random, mut address: impl FnMut(&mut Random) -> u32) ->
         }
     }
     let addresses = bytes_of(&addresses);
-    let results = bytes(random, 4 * addresses.len());
+    let results = random.bytes(4 * addresses.len());
     let [addresses_offset, results_offset] = [(); 2].map(|_| random.below(4));
     List { addresses, addresses_offset, results, results_offset }
 }
@@ -41,7 +41,7 @@ pub fn spoil(random: &mut Random, list: &mut List) {
     list.addresses.truncate(whole);
     if random.percent(50) {
         let stray = random.within(1, 3) as usize;
-        list.addresses.extend(bytes(random, stray));
+        list.addresses.extend(random.bytes(stray));
     }
     let right = 4 * list.addresses.len();
     let off = random.pick(&[1, 1, 2, 4, 4, 12, 16, 16, 256, 65_536]);
@@ -55,11 +55,5 @@ pub fn spoil(random: &mut Random, list: &mut List) {
         8 => random.pick(&[whole / 4, whole, 2 * whole]),
         _ => random.below(right + 1),
     };
-    list.results = bytes(random, size);
-}
-
-fn bytes(random: &mut Random, size: usize) -> Vec<u8> {
-    let mut bytes: Vec<u8> = (0..size.div_ceil(8)).flat_map(|_| random.next().to_le_bytes()).collect();
-    bytes.truncate(size);
-    bytes
+    list.results = random.bytes(size);
 }

@@ -1,11 +1,13 @@
 //! What a run has seen. A run that never met a refusal or a kind of answer has compared nothing there.
 
 use crate::calls::{AnyCall, Call};
+use crate::message_tally::MessageTally;
 use crate::pair::Difference;
 use crate::replacing::{MEETS, MEETS_UNDAMAGED};
 use std::fmt;
 
-const CALLS: [&str; 7] = ["clear", "add", "withdraw", "change", "match vector", "lookup", "list"];
+const CALLS: [&str; 9] =
+    ["clear", "add", "withdraw", "change", "match vector", "lookup", "list", "message", "written withdrawal"];
 
 /// The refusals that each call can give.
 const GIVES: [&[usize]; CALLS.len()] = [
@@ -16,6 +18,8 @@ const GIVES: [&[usize]; CALLS.len()] = [
     &[0, 1, 2],
     &[0, 1, 2],
     &[0, 1, 2, 18],
+    &[0, 1, 2, 12, 13],
+    &[0, 3, 4, 18],
 ];
 
 /// Room for every refusal that a call can give.
@@ -41,6 +45,7 @@ pub struct Tally {
     /// Accepted adds of stored prefixes, and what they met.
     replaced: [u64; REPLACING.len()],
     met: [[u64; MEETS.len()]; REPLACING.len()],
+    messages: MessageTally,
 }
 
 impl Tally {
@@ -54,15 +59,18 @@ impl Tally {
             AnyCall::One(Call::Vector { .. }) => 4,
             AnyCall::One(Call::Lookup { .. }) => 5,
             AnyCall::List(_) => 6,
+            AnyCall::Message(_) => 7,
+            AnyCall::Writing(_) => 8,
         };
         let refusal = (answer >> 48) as usize;
         if !GIVES[row].contains(&refusal) {
             return Err(Difference(format!("both give refusal {refusal}, which no {} gives", CALLS[row])));
         }
         self.given[row][refusal] += 1;
-        match call {
-            AnyCall::One(Call::Lookup { .. }) if refusal == 0 => self.count_lookup(answer),
-            AnyCall::List(list) if refusal == 0 => self.count_list(list.addresses.len() / 4),
+        match (call, refusal) {
+            (AnyCall::One(Call::Lookup { .. }), 0) => self.count_lookup(answer),
+            (AnyCall::List(list), 0) => self.count_list(list.addresses.len() / 4),
+            (AnyCall::Message(message), 0 | 12 | 13) => self.messages.count(message, answer)?,
             _ => {}
         }
         Ok(())
@@ -122,7 +130,7 @@ impl Tally {
                 return Some(format!("no add of a stored prefix {} was accepted {when}", MEETS[missed]));
             }
         }
-        None
+        self.messages.missing()
     }
 }
 
@@ -161,6 +169,6 @@ impl fmt::Display for Tally {
                 write!(f, ", {meets}: {times}")?;
             }
         }
-        Ok(())
+        write!(f, "\n{}", self.messages)
     }
 }

@@ -1,6 +1,6 @@
 //! Calls and their answers in words.
 
-use crate::calls::{AnyCall, Call, Lent, List, Settings};
+use crate::calls::{AnyCall, Call, Lent, List, Message, Settings, Writing};
 use std::fmt;
 
 /// A call in words.
@@ -10,6 +10,8 @@ pub fn told<'a>(t: &Settings, lent: Lent, call: impl Into<AnyCall<'a>>) -> Strin
     let asked = match call {
         AnyCall::One(call) => told_call(call),
         AnyCall::List(list) => told_list(list),
+        AnyCall::Message(message) => told_message(message),
+        AnyCall::Writing(writing) => return told_writing(writing),
     };
     let unit = if call.units() == 4 { "bytes" } else { "words" };
     format!(
@@ -29,9 +31,11 @@ fn told_call(call: Call) -> String {
     }
 }
 
+fn counted(count: usize, one: &str, more: &str) -> String {
+    format!("{count} {}", if count == 1 { one } else { more })
+}
+
 fn told_list(list: &List) -> String {
-    let counted =
-        |count: usize, one: &str, more: &str| format!("{count} {}", if count == 1 { one } else { more });
     let addresses = counted(list.addresses.len() / 4, "address", "addresses");
     let stray = match list.addresses.len() % 4 {
         0 => String::new(),
@@ -42,6 +46,36 @@ fn told_list(list: &List) -> String {
     format!(
         "lookup of a list of {addresses}{stray}, {results} of results \
          ({addresses_offset} and {results_offset} past a word's address)"
+    )
+}
+
+/// A message with its bytes and its next hops, without those beyond many.
+fn told_message(message: &Message) -> String {
+    const MANY_BYTES: usize = 4097;
+    const MANY_HOPS: usize = 40;
+    let Message { bytes, offset, hops, hops_offset } = message;
+    let mut bytes: String = bytes.iter().take(MANY_BYTES).map(|byte| format!("{byte:02x}")).collect();
+    let mut hops: Vec<String> = hops.iter().take(MANY_HOPS).map(|hop| dotted(*hop)).collect();
+    if message.bytes.len() > MANY_BYTES {
+        bytes += "..";
+    }
+    if message.hops.len() > MANY_HOPS {
+        hops.push("..".to_string());
+    }
+    format!(
+        "message of {}: {bytes} ({offset} past a word's address), {} ({hops_offset} words past their place): {}",
+        counted(message.bytes.len(), "byte", "bytes"),
+        counted(message.hops.len(), "next hop", "next hops"),
+        hops.join(" ")
+    )
+}
+
+fn told_writing(writing: &Writing) -> String {
+    let Writing { prefix, length, room, offset } = writing;
+    let room = counted(room.len(), "byte", "bytes");
+    format!(
+        "withdrawal of {}/{length} written into {room} of room ({offset} past a word's address)",
+        dotted(*prefix)
     )
 }
 
@@ -72,6 +106,9 @@ impl fmt::Display for Answer<'_> {
         match call {
             AnyCall::One(Call::Lookup { .. }) => write!(f, ", {})", Parts::of_number(*n)),
             AnyCall::One(Call::Vector { .. }) => write!(f, ", vector {})", n & 0xffff_ffff_ffff),
+            AnyCall::Message(_) => {
+                write!(f, ", routes refused {}, accepted {})", (n & 0xffff_ffff_ffff) >> 12, n & 0xfff)
+            }
             _ => write!(f, ")"),
         }
     }

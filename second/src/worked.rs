@@ -8,16 +8,17 @@ use crate::places::{bytes_of, places};
 use crate::routes::Routes;
 use crate::rules::{bucket, counter_at, first_slot, positions, walk_agrees, T};
 use crate::told::{told, Answer};
+use crate::worked_messages;
 
-fn address(a: u8, b: u8, c: u8, d: u8) -> u32 {
+pub fn address(a: u8, b: u8, c: u8, d: u8) -> u32 {
     u32::from_be_bytes([a, b, c, d])
 }
 
-fn refused(number: u64) -> u64 {
+pub fn refused(number: u64) -> u64 {
     number << 48
 }
 
-fn found(hop: u64, length: u64, probes: u64) -> u64 {
+pub fn found(hop: u64, length: u64, probes: u64) -> u64 {
     (1 << 40) + (hop << 16) + (length << 8) + probes
 }
 
@@ -27,7 +28,7 @@ fn zero(k: u32, s: u32) -> Settings {
 }
 
 /// Sizes that are wrong by one.
-fn one_off(Lent { counters, slots }: Lent) -> [Lent; 4] {
+pub fn one_off(Lent { counters, slots }: Lent) -> [Lent; 4] {
     [(counters + 1, slots), (counters - 1, slots), (counters, slots + 1), (counters, slots - 1)]
         .map(|(counters, slots)| Lent { counters, slots })
 }
@@ -38,15 +39,15 @@ fn list_of(addresses: Vec<u8>, results: usize) -> List {
 }
 
 /// One case: a table that begins cleared.
-struct Case<'a> {
+pub struct Case<'a> {
     name: &'static str,
-    t: Settings,
-    library: &'a mut Library,
-    pair: Pair,
+    pub t: Settings,
+    pub library: &'a mut Library,
+    pub pair: Pair,
 }
 
 impl<'a> Case<'a> {
-    fn new(library: &'a mut Library, name: &'static str, t: Settings) -> Result<Case<'a>, String> {
+    pub fn new(library: &'a mut Library, name: &'static str, t: Settings) -> Result<Case<'a>, String> {
         let pair = Pair::new(library, Area::Old, t, None, || 7, || 7);
         let mut case = Case { name, t, library, pair };
         case.gives(Call::Clear, 0)?;
@@ -55,7 +56,7 @@ impl<'a> Case<'a> {
     }
 
     /// A call gives an answer.
-    fn gives(&mut self, call: Call, answer: u64) -> Result<(), String> {
+    pub fn gives(&mut self, call: Call, answer: u64) -> Result<(), String> {
         self.gives_lent(self.pair.lent(call), call, answer)
     }
 
@@ -66,7 +67,7 @@ impl<'a> Case<'a> {
     }
 
     /// An answer is that of the document.
-    fn documented<'c>(
+    pub fn documented<'c>(
         &self,
         lent: Lent,
         call: impl Into<AnyCall<'c>>,
@@ -81,11 +82,11 @@ impl<'a> Case<'a> {
         Err(self.wrong(lent, call, format!("answer: {given}, in the document {answer}")))
     }
 
-    fn wrong<'c>(&self, lent: Lent, call: impl Into<AnyCall<'c>>, what: String) -> String {
+    pub fn wrong<'c>(&self, lent: Lent, call: impl Into<AnyCall<'c>>, what: String) -> String {
         format!("{}: {}\n  {what}", self.name, told(&self.t, lent, call))
     }
 
-    fn add(&mut self, prefix: u32, length: u32, hop: u32, refusal: u64) -> Result<(), String> {
+    pub fn add(&mut self, prefix: u32, length: u32, hop: u32, refusal: u64) -> Result<(), String> {
         self.gives(Call::Add { prefix, length, hop }, refused(refusal))
     }
 
@@ -97,7 +98,7 @@ impl<'a> Case<'a> {
         self.holds(self.pair.memory() == (counters, slots), &format!("word {at} alone gets {mark}"))
     }
 
-    fn lookup(&mut self, address: u32, answer: u64) -> Result<(), String> {
+    pub fn lookup(&mut self, address: u32, answer: u64) -> Result<(), String> {
         self.gives(Call::Lookup { address }, answer)
     }
 
@@ -129,7 +130,7 @@ impl<'a> Case<'a> {
         self.holds(given.results == results, "the results of a list")
     }
 
-    fn holds(&self, right: bool, what: &str) -> Result<(), String> {
+    pub fn holds(&self, right: bool, what: &str) -> Result<(), String> {
         if right {
             Ok(())
         } else {
@@ -228,7 +229,8 @@ pub fn run(library: &mut Library) -> Result<(), String> {
         }
     }
     stored_again(library)?;
-    downwards(library)
+    downwards(library)?;
+    worked_messages::run(library)
 }
 
 /// Stored prefixes that are added again.
