@@ -3,7 +3,8 @@
 #   make run                       proves and builds the text program and runs it on standard input
 #   make test                      every test; its last line is the verdict, 'N passed, 0 failed'
 #   make lib                       the proved library for C: target/staticlib/libgateway.a
-#   make examples                  target/forward, a C program that forwards by a table
+#   make examples                  target/forward, a C program that forwards by a table, and target/neighbour,
+#                                  one that does a neighbour's messages
 #   make install PREFIX=/usr/local header, archive and pkg-config file; DESTDIR is put before PREFIX
 #   make uninstall                 takes these three away again
 #   make settings                  measures which settings take how many routes; SEED=1 fixes them
@@ -15,11 +16,11 @@
 #   make memory                    shows under valgrind that the library touches no byte that is not lent;
 #                                  SEED=1 fixes the calls, TABLES=1000 says how many tables they are of
 #   make edits                     runs each wrong edit of code, to show that it is a wrong program
-#   make bench                     the time of lookups, match vectors and updates beside calls written by
-#                                  hand in C, of lists beside single lookups, and the text program's beside
-#                                  the second program
-#   make bench BEFORE=COMMIT       the time of all calls but change and clear beside those of an earlier
-#                                  commit's library, which is proved and built first
+#   make bench                     the time of lookups, match vectors, updates and messages beside calls
+#                                  written by hand in C, of lists beside single lookups, and the text
+#                                  program's beside the second program
+#   make bench BEFORE=COMMIT       the time of all calls but change, clear and the writing of withdrawals
+#                                  beside those of an earlier commit's library, which is proved and built first
 #   make clean                     removes target/, where all of this is built
 #
 # Needed are the kit's command rt on the PATH (but for make settings and make clean), gcc for all that
@@ -55,10 +56,10 @@ lib: $(ARCHIVE)
 $(ARCHIVE): $(shell find crates crates.txt -type f)
 	@$(RT) staticlib gateway
 
-examples: target/forward
+examples: target/forward target/neighbour
 
-target/forward: examples/forward.c include/gateway.h $(ARCHIVE)
-	$(CC) $(WARNINGS) $(CFLAGS) -Iinclude -o $@ examples/forward.c $(ARCHIVE)
+target/forward target/neighbour: target/%: examples/%.c examples/text.h include/gateway.h $(ARCHIVE)
+	$(CC) $(WARNINGS) $(CFLAGS) -Iinclude -o $@ $< $(ARCHIVE)
 
 INTO = $(DESTDIR)$(PREFIX)
 INSTALLED = include/gateway.h lib/libgateway.a lib/pkgconfig/gateway.pc

@@ -2,7 +2,7 @@
  * Measures the library beside that of an earlier commit: the same calls on the same tables, in turns within one
  * run. The earlier one's functions are called before_lookup and so on, this one's now_lookup. Every answer of
  * the two is compared, and after updates every byte. Who goes first changes from round to round, and who has
- * which memory.
+ * which memory. Messages are left out where the earlier library does not have them.
  *
  *     before NAME
  */
@@ -18,6 +18,8 @@
     extern __typeof__(gateway_change) word##_change;                                               \
     extern __typeof__(gateway_lookup) word##_lookup, word##_match_vector;                          \
     extern __typeof__(gateway_lookup_list) word##_lookup_list;                                     \
+    extern __typeof__(gateway_update) word##_update __attribute__((weak));                         \
+    extern __typeof__(gateway_write_withdrawal) word##_write_withdrawal __attribute__((weak));     \
     static const struct calls word = CALLS_OF(word)
 
 LIBRARY(before);
@@ -95,6 +97,31 @@ static void measure_updates(const struct table *t)
     take_back(&memory[1]);
 }
 
+static void measure_messages(const struct table *t)
+{
+    struct memory memory[BOTH] = {lend_table(t), lend_table(t)};
+    uint32_t many = fill(t, &before, &memory[0], &now, &memory[1]);
+    choose_told(t, &before, &memory[0], &now, &memory[1]);
+
+    for (int i = 0; i < SIZES; i++) {
+        size_t messages = make_messages(message_routes[i]);
+        double ns[BOTH][TELLINGS] = {{0}};
+        for (int round = 0; round < ROUNDS; round++) {
+            IN_TURNS (turn, one)
+                tell_each(ns[one], t, &memory[turn], libraries[one]->update, given[one]);
+            check_answers(TELLINGS * TIMES_TOLD * messages, "a message");
+            check_memory(&memory[0], &memory[1]);
+        }
+        char what[32];
+        snprintf(what, sizeof what, "announced, %u each", (unsigned)message_routes[i]);
+        print_times(t, many, what, (const double[BOTH]){ns[0][ANNOUNCED], ns[1][ANNOUNCED]});
+        snprintf(what, sizeof what, "withdrawn, %u each", (unsigned)message_routes[i]);
+        print_times(t, many, what, (const double[BOTH]){ns[0][WITHDRAWN], ns[1][WITHDRAWN]});
+    }
+    take_back(&memory[0]);
+    take_back(&memory[1]);
+}
+
 int main(int argc, char **argv)
 {
     if (argc != 2) {
@@ -112,6 +139,10 @@ int main(int argc, char **argv)
     }
     for (int i = 0; i < TABLES; i++) {
         measure_updates(&updated[i]);
+        fflush(stdout);
+    }
+    for (int i = 0; i < TABLES - 1 && before.update != NULL; i++) {
+        measure_messages(&updated[i]);
         fflush(stdout);
     }
     printf("\nevery answer agrees, and every byte\n");

@@ -1,8 +1,9 @@
 /*
  * Measures the proved calls beside calls written by hand in C: lookups and match vectors of the same million
  * addresses, withdrawals and adds of the same routes, and adds that replace a route, on the same tables, in
- * turns within one run; and the lookup of a list beside as many single ones. Every answer of the two is
- * compared, and after updates every byte. Settings are arguments to both, so neither compiler knows them.
+ * turns within one run; a neighbour's messages; and the lookup of a list beside as many single ones. Every answer
+ * of the two is compared, and after updates every byte. Settings are arguments to both, so neither compiler knows
+ * them.
  */
 #include "measure.h"
 #include "table.h"
@@ -94,6 +95,36 @@ static void measure_updates(const struct table *t)
     take_back(&second);
 }
 
+static void measure_messages(const struct table *t)
+{
+    struct memory first = lend_table(t), second = lend_table(t);
+    uint32_t many = fill(t, &hand, &first, &proved, &second);
+    choose_told(t, &hand, &first, &proved, &second);
+
+    for (int i = 0; i < SIZES; i++) {
+        size_t messages = make_messages(message_routes[i]);
+        double hand_ns[TELLINGS] = {0}, proved_ns[TELLINGS] = {0};
+        for (int round = 0; round < ROUNDS; round++) {
+            tell_each(hand_ns, t, &first, hand.update, by_hand);
+            tell_each(proved_ns, t, &second, proved.update, by_proof);
+            check_updates(TELLINGS * TIMES_TOLD * messages, &first, &second);
+        }
+        for (int j = 0; j < TELLINGS; j++) {
+            tell((enum telling)j, t, &first, hand.update, by_hand);
+            tell((enum telling)j, t, &second, proved.update, by_proof);
+            check_updates(messages, &first, &second);
+        }
+        print_table(t, many);
+        printf("  %6u", (unsigned)message_routes[i]);
+        for (int j = 0; j < TELLINGS; j++)
+            printf("  %7.1f  %9.1f  %5.2f", hand_ns[j], proved_ns[j], proved_ns[j] / hand_ns[j]);
+        printf("  %6.1f  %6.1f\n", 2e3 / (hand_ns[ANNOUNCED] + hand_ns[WITHDRAWN]),
+               2e3 / (proved_ns[ANNOUNCED] + proved_ns[WITHDRAWN]));
+    }
+    take_back(&first);
+    take_back(&second);
+}
+
 static void measure_lists(const struct table *t)
 {
     struct memory first = lend_table(t), second = lend_table(t);
@@ -114,9 +145,9 @@ static void measure_lists(const struct table *t)
     take_back(&second);
 }
 
-static void measure(void (*each)(const struct table *), const struct table tables[TABLES])
+static void measure(void (*each)(const struct table *), const struct table *tables, int many)
 {
-    for (int i = 0; i < TABLES; i++) {
+    for (int i = 0; i < many; i++) {
         each(&tables[i]);
         fflush(stdout);
     }
@@ -130,21 +161,29 @@ int main(void)
     printf("offered, stored: routes; probes: buckets searched to a lookup; default: how many take the default route\n");
     printf("ratio: the proved time over hand's, over unrolled's and over in turn's\n\n");
     printf("offered  stored  K  D E S  probes  default  hand ns  proved ns  ratio  unrolled  ratio  in turn  ratio\n");
-    measure(measure_lookups, asked);
+    measure(measure_lookups, asked, TABLES);
     printf("\nnanoseconds to a match vector, best of %d rounds over %d addresses; claims: how many bits are set\n\n",
            ROUNDS, ADDRESSES);
     printf("offered  stored  K  D E S  claims  hand ns  proved ns  ratio\n");
-    measure(measure_vectors, asked);
+    measure(measure_vectors, asked, TABLES);
     printf("\nnanoseconds to an update, best of %d rounds: %d times a stored route is withdrawn and added again;\n",
            ROUNDS, TURNS);
     printf("then as often one is replaced: added with another hop\n\n");
     printf("                           withdrawn, added again     replaced\n");
     printf("offered  stored  K  D E S  hand ns  proved ns  ratio  hand ns  proved ns  ratio\n");
-    measure(measure_updates, updated);
+    measure(measure_updates, updated, TABLES);
+    printf("\nnanoseconds to a route of a neighbour's messages, best of %d times that %d routes of length 24, which\n",
+           ROUNDS * TIMES_TOLD, TOLD);
+    printf("find room, are announced, so many to a message, and then withdrawn\n");
+    printf("hand: a reader in C, which checks the whole message and then does its routes\n");
+    printf("millions: so many routes a second, announced and withdrawn ones together\n\n");
+    printf("                                   announced                  withdrawn                  millions\n");
+    printf("offered  stored  K  D E S  routes  hand ns  proved ns  ratio  hand ns  proved ns  ratio    hand  proved\n");
+    measure(measure_messages, updated, TABLES - 1);
     printf("\nnanoseconds to an address, best of %d rounds over %d addresses\n", ROUNDS, ADDRESSES);
     printf("single: a call to each; short and long: a call to each list of %d and of %d\n\n", SHORT_LIST, LONG_LIST);
     printf("offered  stored  K  D E S  single ns  short ns  ratio  long ns  ratio\n");
-    measure(measure_lists, asked);
+    measure(measure_lists, asked, TABLES);
     printf("\nevery answer agrees, and every byte\n");
     return 0;
 }

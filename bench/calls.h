@@ -1,4 +1,4 @@
-/* The seven calls of a library, or by hand, so that a program can make the same call of two of them. */
+/* The calls of a library, or by hand, so that a program can make the same call of two of them. */
 #ifndef CALLS_H
 #define CALLS_H
 
@@ -11,13 +11,15 @@ struct calls {
     __typeof__(gateway_change) *change;
     __typeof__(gateway_lookup) *lookup, *match_vector;
     __typeof__(gateway_lookup_list) *lookup_list;
+    __typeof__(gateway_update) *update;
+    __typeof__(gateway_write_withdrawal) *write_withdrawal;
 };
 
 /* Those whose names begin with a word. */
 #define CALLS_OF(word)                                                                             \
     {                                                                                              \
         word##_clear, word##_add, word##_withdraw, word##_change, word##_lookup, word##_match_vector, \
-            word##_lookup_list                                                                     \
+            word##_lookup_list, word##_update, word##_write_withdrawal                             \
     }
 
 #endif

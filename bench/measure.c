@@ -21,6 +21,8 @@ const struct table updated[TABLES] = {
     {6000, 4, 11, 8, 8},
 };
 
+const size_t message_routes[SIZES] = {1, 10, TOLD};
+
 static const uint32_t a = 0x9e3779b1, b = 0x85ebca6b, c = 0xc2b2ae35;
 
 /* How many of a thousand routes have each length, about as in a full table of the open network. */
@@ -167,11 +169,15 @@ static double nanoseconds(void)
     return (double)t.tv_sec * 1e9 + (double)t.tv_nsec;
 }
 
-static void keep_best(double *best, double start, double calls)
+static void keep_least(double *best, double took)
 {
-    double took = (nanoseconds() - start) / calls;
     if (*best == 0 || took < *best)
         *best = took;
+}
+
+static void keep_best(double *best, double start, double calls)
+{
+    keep_least(best, (nanoseconds() - start) / calls);
 }
 
 void ask_each(double *best, const struct table *t, const struct memory *m, __typeof__(gateway_lookup) *call,
@@ -220,6 +226,122 @@ void replace(double *best, const struct table *t, const struct memory *m, const 
     keep_best(best, start, TURNS);
     for (size_t i = 0; i < TURNS; i++)
         check(given[i] == GATEWAY_OK, "an add that replaces");
+}
+
+/* The routes that a neighbour tells, its next hops, and its messages, one after the other. */
+enum { HOPS = 8 };
+
+static uint32_t told[TOLD];
+
+static const uint32_t next_hops[HOPS] = {0x0a090901, 0x0a090902, 0x0a090903, 0x0a090904,
+                                         0x0a090905, 0x0a090906, 0x0a090907, 0x0a090908};
+
+static struct stream {
+    uint8_t bytes[64 * TOLD];
+    size_t start[TOLD + 1], messages;
+} streams[TELLINGS];
+
+void choose_told(const struct table *t, const struct calls *one, const struct memory *first,
+                 const struct calls *other, const struct memory *second)
+{
+    for (size_t i = 0; i < TOLD;) {
+        told[i] = random_word() & 0xffffff00;
+        if (!has_route(t->routes, told[i], 24) && UPDATE(add, told[i], 24, 0) == GATEWAY_OK)
+            i++;
+    }
+    for (size_t i = 0; i < TOLD; i++)
+        check(UPDATE(withdraw, told[i], 24) == GATEWAY_OK, "a withdrawal");
+    check_memory(first, second);
+}
+
+static uint8_t *put(uint8_t *at, const void *bytes, size_t size)
+{
+    memcpy(at, bytes, size);
+    return at + size;
+}
+
+static uint8_t *put_two(uint8_t *at, size_t number)
+{
+    const uint8_t bytes[2] = {(uint8_t)(number >> 8), (uint8_t)number};
+    return put(at, bytes, sizeof bytes);
+}
+
+static uint8_t *put_prefixes(uint8_t *at, const uint32_t *prefixes, size_t many)
+{
+    for (size_t i = 0; i < many; i++) {
+        const uint8_t bytes[4] = {24, (uint8_t)(prefixes[i] >> 24), (uint8_t)(prefixes[i] >> 16),
+                                  (uint8_t)(prefixes[i] >> 8)};
+        at = put(at, bytes, sizeof bytes);
+    }
+    return at;
+}
+
+/* ORIGIN, an AS_PATH of three, and a NEXT_HOP. */
+static uint8_t *put_attributes(uint8_t *at)
+{
+    const uint8_t before[] = {0x40, 1, 1, 0, 0x40, 2, 14, 2, 3, 0, 0, 0xfd, 0xe8, 0, 0, 0xfd, 0xe9, 0, 0, 0xfd, 0xea,
+                              0x40, 3, 4};
+    const uint32_t hop = next_hops[random_below(HOPS)];
+    const uint8_t address[4] = {(uint8_t)(hop >> 24), (uint8_t)(hop >> 16), (uint8_t)(hop >> 8), (uint8_t)hop};
+    at = put_two(at, sizeof before + sizeof address);
+    at = put(at, before, sizeof before);
+    return put(at, address, sizeof address);
+}
+
+static uint8_t *put_message(uint8_t *from, enum telling telling, const uint32_t *prefixes, size_t many)
+{
+    uint8_t *at = from + 18;
+    memset(from, 255, 16);
+    *at++ = 2;
+    if (telling == WITHDRAWN) {
+        at = put_two(at, 4 * many);
+        at = put_prefixes(at, prefixes, many);
+        at = put_two(at, 0);
+    } else {
+        at = put_two(at, 0);
+        at = put_attributes(at);
+        at = put_prefixes(at, prefixes, many);
+    }
+    put_two(from + 16, (size_t)(at - from));
+    return at;
+}
+
+size_t make_messages(size_t many)
+{
+    for (int telling = 0; telling < TELLINGS; telling++) {
+        struct stream *s = &streams[telling];
+        uint8_t *at = s->bytes;
+        s->messages = 0;
+        for (size_t i = 0; i < TOLD; i += many) {
+            s->start[s->messages++] = (size_t)(at - s->bytes);
+            at = put_message(at, (enum telling)telling, &told[i], many);
+        }
+        s->start[s->messages] = (size_t)(at - s->bytes);
+    }
+    return streams[ANNOUNCED].messages;
+}
+
+double tell(enum telling telling, const struct table *t, const struct memory *m, __typeof__(gateway_update) *call,
+            uint64_t *given)
+{
+    const struct stream *s = &streams[telling];
+    double start = nanoseconds();
+    for (size_t i = 0; i < s->messages; i++)
+        given[i] = call(LENT(m), s->bytes + s->start[i], s->start[i + 1] - s->start[i], next_hops, HOPS);
+    return nanoseconds() - start;
+}
+
+void tell_each(double best[TELLINGS], const struct table *t, const struct memory *m,
+               __typeof__(gateway_update) *call, answers given)
+{
+    uint64_t *at = given;
+    for (size_t i = 0; i < TIMES_TOLD; i++)
+        for (int telling = 0; telling < TELLINGS; telling++) {
+            keep_least(&best[telling], tell((enum telling)telling, t, m, call, at) / TOLD);
+            at += streams[telling].messages;
+        }
+    for (const uint64_t *answer = given; answer < at; answer++)
+        check(*answer == TOLD / streams[ANNOUNCED].messages, "a message");
 }
 
 void print_table(const struct table *t, uint32_t many)

@@ -12,6 +12,9 @@
 
 enum { ADDRESSES = 1000000, TURNS = 100000, ROUNDS = 9, TABLES = 3, SHORT_LIST = 64, LONG_LIST = 1000 };
 
+/* A neighbour tells so many routes, so many times a round, by messages of one of so many sizes. */
+enum { TOLD = 500, TIMES_TOLD = 100, SIZES = 3 };
+
 /* So many routes are offered, and what the buckets have room for is stored. */
 struct table {
     uint32_t routes, k, d, e, s;
@@ -25,6 +28,9 @@ struct memory {
 
 /* The tables that are asked, and those that are updated. */
 extern const struct table asked[TABLES], updated[TABLES];
+
+/* How many routes a message has. */
+extern const size_t message_routes[SIZES];
 
 /* What the measured calls answer. */
 typedef uint64_t answers[ADDRESSES];
@@ -49,6 +55,24 @@ void withdraw_and_add(double *best, const struct table *t, const struct memory *
                       answers given);
 void replace(double *best, const struct table *t, const struct memory *m, const struct calls *calls,
              answers given);
+
+/* Chooses TOLD routes of length 24 that both tables have room for besides those stored: the last of the updated
+   ones has not. */
+void choose_told(const struct table *t, const struct calls *one, const struct memory *first,
+                 const struct calls *other, const struct memory *second);
+
+/* Makes the messages that announce them, so many to a message, which must divide them, and those that withdraw
+   them again; answers how many messages either takes. */
+size_t make_messages(size_t many);
+
+/* What all those messages take in nanoseconds. */
+enum telling { ANNOUNCED, WITHDRAWN, TELLINGS };
+double tell(enum telling telling, const struct table *t, const struct memory *m, __typeof__(gateway_update) *call,
+            uint64_t *given);
+
+/* Announces and withdraws them by turns, and keeps the best nanoseconds a route of either. */
+void tell_each(double best[TELLINGS], const struct table *t, const struct memory *m,
+               __typeof__(gateway_update) *call, answers given);
 
 /* End the program where two that should agree do not. */
 void check(int agrees, const char *what);

@@ -115,37 +115,68 @@ uint64_t hand_clear(uint32_t k, uint32_t d, uint32_t e, uint32_t s, uint32_t a, 
     return 0;
 }
 
+/* An add and a withdrawal whose arguments are in their ranges; the answer is the number. */
+static inline uint64_t add(const struct settings *t, uint8_t *counters, uint32_t *slots, size_t slots_words,
+                           uint32_t prefix, uint32_t length, uint32_t hop)
+{
+    if (length == 0) {
+        slots[slots_words - 1] = hop + 1;
+        return 0;
+    }
+    struct found found = search(t, slots, length, prefix);
+    if (found.held != found.none) {
+        slots[2 * found.held + 1] = hop + 1;
+        return 0;
+    }
+    if (found.vacant == found.none)
+        return 8;
+    size_t place[8];
+    uint32_t many = places(t, length, prefix, place);
+    for (uint32_t i = 0; i < many; i++)
+        if (counters[place[i]] + hits(place, many, place[i]) > 15)
+            return 9;
+    slots[2 * found.vacant] = prefix;
+    slots[2 * found.vacant + 1] = hop + 1;
+    for (uint32_t i = 0; i < many; i++)
+        counters[place[i]]++;
+    return 0;
+}
+
+static inline uint64_t withdraw(const struct settings *t, uint8_t *counters, uint32_t *slots, size_t slots_words,
+                                uint32_t prefix, uint32_t length)
+{
+    if (length == 0) {
+        if (!occupied(slots[slots_words - 1]))
+            return 7;
+        slots[slots_words - 1] = 0;
+        return 0;
+    }
+    struct found found = search(t, slots, length, prefix);
+    if (found.held == found.none)
+        return 7;
+    size_t place[8];
+    uint32_t many = places(t, length, prefix, place);
+    for (uint32_t i = 0; i < many; i++)
+        if (counters[place[i]] < hits(place, many, place[i]))
+            return 10;
+    slots[2 * found.held] = 0;
+    slots[2 * found.held + 1] = 0;
+    for (uint32_t i = 0; i < many; i++)
+        counters[place[i]]--;
+    return 0;
+}
+
 uint64_t hand_add(uint32_t k, uint32_t d, uint32_t e, uint32_t s, uint32_t a, uint32_t b,
                   uint32_t c, uint8_t *counters, size_t counters_bytes, uint32_t *slots,
                   size_t slots_words, uint32_t prefix, uint32_t length, uint32_t hop)
 {
     const struct settings t = {k, d, e, s, a, b, c};
     uint64_t refusal = refuse_route(&t, counters_bytes, slots_words, prefix, length);
-    if (refusal != 0)
-        return REFUSED(refusal);
-    if (hop > 65535)
-        return REFUSED(5);
-    if (length == 0) {
-        slots[slots_words - 1] = hop + 1;
-        return 0;
-    }
-    struct found found = search(&t, slots, length, prefix);
-    if (found.held != found.none) {
-        slots[2 * found.held + 1] = hop + 1;
-        return 0;
-    }
-    if (found.vacant == found.none)
-        return REFUSED(8);
-    size_t place[8];
-    uint32_t many = places(&t, length, prefix, place);
-    for (uint32_t i = 0; i < many; i++)
-        if (counters[place[i]] + hits(place, many, place[i]) > 15)
-            return REFUSED(9);
-    slots[2 * found.vacant] = prefix;
-    slots[2 * found.vacant + 1] = hop + 1;
-    for (uint32_t i = 0; i < many; i++)
-        counters[place[i]]++;
-    return 0;
+    if (refusal == 0 && hop > 65535)
+        refusal = 5;
+    if (refusal == 0)
+        refusal = add(&t, counters, slots, slots_words, prefix, length, hop);
+    return REFUSED(refusal);
 }
 
 uint64_t hand_withdraw(uint32_t k, uint32_t d, uint32_t e, uint32_t s, uint32_t a, uint32_t b,
@@ -154,27 +185,9 @@ uint64_t hand_withdraw(uint32_t k, uint32_t d, uint32_t e, uint32_t s, uint32_t 
 {
     const struct settings t = {k, d, e, s, a, b, c};
     uint64_t refusal = refuse_route(&t, counters_bytes, slots_words, prefix, length);
-    if (refusal != 0)
-        return REFUSED(refusal);
-    if (length == 0) {
-        if (!occupied(slots[slots_words - 1]))
-            return REFUSED(7);
-        slots[slots_words - 1] = 0;
-        return 0;
-    }
-    struct found found = search(&t, slots, length, prefix);
-    if (found.held == found.none)
-        return REFUSED(7);
-    size_t place[8];
-    uint32_t many = places(&t, length, prefix, place);
-    for (uint32_t i = 0; i < many; i++)
-        if (counters[place[i]] < hits(place, many, place[i]))
-            return REFUSED(10);
-    slots[2 * found.held] = 0;
-    slots[2 * found.held + 1] = 0;
-    for (uint32_t i = 0; i < many; i++)
-        counters[place[i]]--;
-    return 0;
+    if (refusal == 0)
+        refusal = withdraw(&t, counters, slots, slots_words, prefix, length);
+    return REFUSED(refusal);
 }
 
 uint64_t hand_change(uint32_t k, uint32_t d, uint32_t e, uint32_t s, uint32_t a, uint32_t b,
@@ -350,4 +363,146 @@ uint64_t hand_lookup_in_turn(uint32_t k, uint32_t d, uint32_t e, uint32_t s, uin
         bit <<= 1;
     }
     return default_answer(slots, slots_bytes, probes);
+}
+
+/* Where a message's prefixes lie, from the marker's first byte on, and the address of its NEXT_HOP. */
+struct parts {
+    size_t withdrawn_to, announced_from;
+    int has_hop;
+    uint32_t next_hop;
+};
+
+static size_t two_bytes(const uint8_t *at)
+{
+    return (size_t)at[0] << 8 | at[1];
+}
+
+static size_t octets_of(uint32_t length)
+{
+    return (length + 7) / 8;
+}
+
+static int prefixes_fit(const uint8_t *at, const uint8_t *end)
+{
+    while (at < end) {
+        if (*at > 32 || (size_t)(end - at) < 1 + octets_of(*at))
+            return 0;
+        at += 1 + octets_of(*at);
+    }
+    return 1;
+}
+
+static int attributes_fit(const uint8_t *at, const uint8_t *end, struct parts *parts)
+{
+    while (at < end) {
+        size_t header = at[0] & 0x10 ? 4 : 3;
+        if ((size_t)(end - at) < header)
+            return 0;
+        size_t size = header == 4 ? two_bytes(at + 2) : at[2];
+        if ((size_t)(end - at) - header < size)
+            return 0;
+        if (at[1] == 3) {
+            if (size != 4 || parts->has_hop)
+                return 0;
+            parts->has_hop = 1;
+            parts->next_hop = (uint32_t)(two_bytes(at + header) << 16 | two_bytes(at + header + 2));
+        }
+        at += header + size;
+    }
+    return 1;
+}
+
+static int message_fits(const uint8_t *message, size_t bytes, struct parts *parts)
+{
+    static const uint8_t marker[16] = {255, 255, 255, 255, 255, 255, 255, 255,
+                                       255, 255, 255, 255, 255, 255, 255, 255};
+    if (bytes < 23 || bytes > 4096 || memcmp(message, marker, sizeof marker) != 0 ||
+        two_bytes(message + 16) != bytes || message[18] != 2)
+        return 0;
+    parts->withdrawn_to = 21 + two_bytes(message + 19);
+    if (parts->withdrawn_to + 2 > bytes)
+        return 0;
+    parts->announced_from = parts->withdrawn_to + 2 + two_bytes(message + parts->withdrawn_to);
+    parts->has_hop = 0;
+    return parts->announced_from <= bytes && prefixes_fit(message + 21, message + parts->withdrawn_to) &&
+           attributes_fit(message + parts->withdrawn_to + 2, message + parts->announced_from, parts) &&
+           prefixes_fit(message + parts->announced_from, message + bytes);
+}
+
+enum { NO_PLACE = 65536 };
+
+/* The lowest place of an address in the list that a hop can be, or NO_PLACE. */
+static uint32_t place_in(const uint32_t *hops, size_t many, uint32_t address)
+{
+    for (uint32_t i = 0; i < many && i < NO_PLACE; i++)
+        if (hops[i] == address)
+            return i;
+    return NO_PLACE;
+}
+
+/* Takes the prefix at a place where one fits, and answers where the next one starts. */
+static inline const uint8_t *take_prefix(const uint8_t *at, uint32_t *prefix, uint32_t *length)
+{
+    uint32_t address = 0;
+    *length = *at++;
+    switch (octets_of(*length)) {
+    case 4: address |= at[3]; /* fall through */
+    case 3: address |= (uint32_t)at[2] << 8; /* fall through */
+    case 2: address |= (uint32_t)at[1] << 16; /* fall through */
+    case 1: address |= (uint32_t)at[0] << 24;
+    }
+    *prefix = prefix_of(*length, address);
+    return at + octets_of(*length);
+}
+
+uint64_t hand_update(uint32_t k, uint32_t d, uint32_t e, uint32_t s, uint32_t a, uint32_t b,
+                     uint32_t c, uint8_t *counters, size_t counters_bytes, uint32_t *slots,
+                     size_t slots_words, const uint8_t *message, size_t message_bytes,
+                     const uint32_t *hops, size_t hops_words)
+{
+    const struct settings t = {k, d, e, s, a, b, c};
+    struct parts parts;
+    uint32_t hop = 0, prefix, length;
+    uint64_t refused = 0, accepted = 0, refusal = refuse_memory(&t, counters_bytes, slots_words);
+    if (refusal != 0)
+        return REFUSED(refusal);
+    if (!message_fits(message, message_bytes, &parts))
+        return REFUSED(12);
+    if (parts.announced_from < message_bytes) {
+        hop = parts.has_hop ? place_in(hops, hops_words, parts.next_hop) : NO_PLACE;
+        if (hop == NO_PLACE)
+            return REFUSED(13);
+    }
+    for (const uint8_t *at = message + 21; at < message + parts.withdrawn_to;) {
+        at = take_prefix(at, &prefix, &length);
+        refusal = withdraw(&t, counters, slots, slots_words, prefix, length);
+        accepted += refusal == 0;
+        refused += refusal != 0;
+    }
+    for (const uint8_t *at = message + parts.announced_from; at < message + message_bytes;) {
+        at = take_prefix(at, &prefix, &length);
+        refusal = add(&t, counters, slots, slots_words, prefix, length, hop);
+        accepted += refusal == 0;
+        refused += refusal != 0;
+    }
+    return refused << 12 | accepted;
+}
+
+uint64_t hand_write_withdrawal(uint32_t prefix, uint32_t length, uint8_t *room, size_t room_bytes)
+{
+    if (length > 32)
+        return REFUSED(3);
+    if (prefix_of(length, prefix) != prefix)
+        return REFUSED(4);
+    const size_t octets = octets_of(length);
+    if (room_bytes != 24 + octets)
+        return REFUSED(18);
+    const uint8_t header[] = {0, (uint8_t)(24 + octets), 2, 0, (uint8_t)(1 + octets), (uint8_t)length};
+    const uint8_t address[] = {(uint8_t)(prefix >> 24), (uint8_t)(prefix >> 16), (uint8_t)(prefix >> 8),
+                               (uint8_t)prefix};
+    memset(room, 255, 16);
+    memcpy(room + 16, header, sizeof header);
+    memcpy(room + 22, address, octets);
+    memset(room + 22 + octets, 0, 2);
+    return 0;
 }

@@ -40,6 +40,14 @@ uint64_t hand_lookup_list(uint32_t k, uint32_t d, uint32_t e, uint32_t s, uint32
                           const uint8_t *slots, size_t slots_bytes, const uint8_t *addresses,
                           size_t addresses_bytes, uint8_t *results, size_t results_bytes);
 
+/* The whole message is checked first, and then each route done. */
+uint64_t hand_update(uint32_t k, uint32_t d, uint32_t e, uint32_t s, uint32_t a, uint32_t b,
+                     uint32_t c, uint8_t *counters, size_t counters_bytes, uint32_t *slots,
+                     size_t slots_words, const uint8_t *message, size_t message_bytes,
+                     const uint32_t *hops, size_t hops_words);
+
+uint64_t hand_write_withdrawal(uint32_t prefix, uint32_t length, uint8_t *room, size_t room_bytes);
+
 /* The same answers as of hand_lookup, but a length's filter is asked only when the search gets there. */
 uint64_t hand_lookup_in_turn(uint32_t k, uint32_t d, uint32_t e, uint32_t s, uint32_t a, uint32_t b,
                              uint32_t c, const uint8_t *counters, size_t counters_bytes,

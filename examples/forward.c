@@ -15,6 +15,8 @@
  */
 #define _POSIX_C_SOURCE 200112L
 
+#include "text.h"
+
 #include <gateway.h>
 
 #include <errno.h>
@@ -43,54 +45,11 @@ static uint32_t addresses[LOT];
 static struct gateway_result results[LOT];
 static size_t waiting; /* so many addresses of the lot have no answer yet */
 
-/* Reads a decimal number up to most, with no leading zero, and steps past it; 0 if there is none. */
-static int read_number(const char **text, uint32_t most, uint32_t *number)
-{
-    const char *at = *text;
-    uint64_t n = 0;
-    if (*at < '0' || *at > '9' || (*at == '0' && at[1] >= '0' && at[1] <= '9'))
-        return 0;
-    while (*at >= '0' && *at <= '9') {
-        n = 10 * n + (uint64_t)(*at++ - '0');
-        if (n > most)
-            return 0;
-    }
-    *text = at;
-    *number = (uint32_t)n;
-    return 1;
-}
-
-/* Steps past one character; 0 if another is there. */
-static int skip(const char **text, char character)
-{
-    if (**text != character)
-        return 0;
-    ++*text;
-    return 1;
-}
-
-/* Reads four octets parted by dots and steps past them. */
-static int read_address(const char **text, uint32_t *address)
-{
-    uint32_t octet;
-    *address = 0;
-    for (int i = 0; i < 4; i++) {
-        if ((i > 0 && !skip(text, '.')) || !read_number(text, 255, &octet))
-            return 0;
-        *address = *address << 8 | octet;
-    }
-    return 1;
-}
-
-/* Says what is wrong on standard error, and shows the text; what a terminal might obey is escaped. */
+/* Says what is wrong on standard error, and shows the text. */
 static void complain(const char *wrong, const char *text, size_t size)
 {
-    fprintf(stderr, "forward: %s: '", wrong);
-    for (size_t i = 0; i < size; i++) {
-        unsigned char c = (unsigned char)text[i];
-        fprintf(stderr, c < ' ' || c > '~' || c == '\\' ? "\\x%02x" : "%c", c);
-    }
-    fprintf(stderr, "'\n");
+    fprintf(stderr, "forward: %s: ", wrong);
+    show_text(text, size);
 }
 
 /* Whether a call was accepted; says on standard error why it was not. */
@@ -107,8 +66,7 @@ static int add_route(const char *route, const char *hop)
 {
     const char *at = route, *hop_at = hop;
     uint32_t prefix, length, to;
-    if (!read_address(&at, &prefix) || !skip(&at, '/') || !read_number(&at, UINT32_MAX, &length) ||
-        *at != '\0') {
+    if (!read_prefix(&at, &prefix, &length) || *at != '\0') {
         complain("not a prefix (10.0.0.0/8 is one)", route, strlen(route));
         return 0;
     }

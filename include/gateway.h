@@ -24,19 +24,28 @@
  *     if (refusal == GATEWAY_OK)
  *         refusal = gateway_table_add(&table, 0x0a000000, 8, 7);
  *
+ * Where a neighbour tells routes by BGP, hand on each UPDATE message as it came, with the addresses of the
+ * next hops. The place of an address in that list is its hop: here 10.9.9.1 is hop 0, 10.9.9.2 hop 1.
+ *
+ *     static const uint32_t hops[] = {0x0a090901, 0x0a090902};
+ *
+ *     struct gateway_report report = gateway_table_update(&table, message, size, hops, 2);
+ *
  * An address or prefix is a 32-bit number with its first octet highest: 10.0.0.0 is 0x0a000000. A
  * route is a prefix, its length (0 to 32, 0 being the default route) and its next hop (0 to 65535).
  *
  * Every call checks what it is given. The first of the GATEWAY_ refusals below whose condition holds
  * is answered, with zero for everything else, and no lent byte or word is changed. What no call can
  * check: each pointer must lead to as much memory as the size beside it says (beside 0 it may be NULL),
- * the lists that a call is lent must not overlap, the words of an update must be aligned as uint32_t, and
- * a table must be asked and updated under the settings that it was cleared with. Lookups may run at the
- * same time, those of a list each into results of its own; an update must run alone.
+ * the lists that a call is lent must not overlap, the words of an update and the list of next hops must be
+ * aligned as uint32_t, and a table must be asked and updated under the settings that it was cleared with.
+ * Lookups may run at the same time, those of a list each into results of its own; an update must run alone,
+ * and so must a message.
  *
  * What is proved of these calls, in a C program's own terms, is stated in
  * crates/c_promises/proofs/Promises.antt and, of lists, in Lists.antt beside it; specs/Numbers.antt there
- * has the functions that take an answer apart. The functions on a table stand on them and are tested.
+ * has the functions that take an answer apart. Of messages it is crates/message_promises/proofs/FromC.antt.
+ * The functions on a table stand on these calls and are tested.
  *
  * Choosing settings. A length has 2^e buckets of s slots, and a route goes into the one bucket that
  * its prefix hashes to: once that is full a new route is refused, however empty the others are. So a
@@ -72,7 +81,7 @@ extern "C" {
 #endif
 
 /* The version of this header, of its archive and of its pkg-config file; CHANGELOG.md tells them apart. */
-#define GATEWAY_VERSION "0.4.1"
+#define GATEWAY_VERSION "0.5.0"
 
 /* An answer that is not looked at is a refusal that nobody sees: the compiler warns of it. */
 #if defined(__GNUC__)
@@ -81,7 +90,7 @@ extern "C" {
 #define GATEWAY_ANSWERS
 #endif
 
-/* What a call refuses, in the order in which it checks. 6 and 11 to 17 are given by no call. */
+/* What a call refuses, in the order in which it checks. 6, 11 and 14 to 17 are given by no call. */
 enum {
     GATEWAY_OK = 0,
     GATEWAY_BAD_SETTINGS = 1,   /* k, d, e or s is out of its range */
@@ -94,7 +103,11 @@ enum {
     GATEWAY_BUCKET_FULL = 8,    /* add of a prefix not stored: every slot of its bucket is occupied */
     GATEWAY_COUNTER_FULL = 9,   /* add of a prefix not stored: a counter would pass 15 */
     GATEWAY_COUNTER_SHORT = 10, /* withdraw: a counter would pass below 0; the memory is damaged */
-    GATEWAY_BAD_LIST = 18       /* lookup list: no whole addresses, or not four result words to each */
+    GATEWAY_BAD_MESSAGE = 12,   /* message: it is no UPDATE, or not well-formed */
+    GATEWAY_BAD_NEXT_HOP = 13,  /* message that announces: NEXT_HOP is missing, not in the list of next hops,
+                                   or at a place above 65535 there */
+    GATEWAY_BAD_LIST = 18       /* lookup list: no whole addresses, or not four result words to each;
+                                   withdrawal: the room is not of exactly the message's size */
 };
 
 /* A refusal in words. */
@@ -112,7 +125,11 @@ static inline const char *gateway_refusal_text(uint32_t refusal)
     case GATEWAY_BUCKET_FULL: return "every slot of the bucket is occupied";
     case GATEWAY_COUNTER_FULL: return "a counter would pass 15";
     case GATEWAY_COUNTER_SHORT: return "a counter would pass below 0";
-    case GATEWAY_BAD_LIST: return "the addresses are no whole words, or the results not four to each";
+    case GATEWAY_BAD_MESSAGE: return "the message is no UPDATE, or not well-formed";
+    case GATEWAY_BAD_NEXT_HOP:
+        return "routes are announced without a NEXT_HOP, or the list does not have it up to place 65535";
+    case GATEWAY_BAD_LIST:
+        return "the results are not four to each whole address, or the room is not of the message's size";
     default: return "unknown refusal";
     }
 }
@@ -139,6 +156,18 @@ static inline size_t gateway_slots_words(uint32_t e, uint32_t s)
 static inline size_t gateway_slots_bytes(uint32_t e, uint32_t s)
 {
     return 4 * gateway_slots_words(e, s);
+}
+
+/*
+ * The most bytes that a message of BGP has, and those of the message that withdraws a route of a length. As
+ * above, the first two are constants, for a length up to 32, and the function answers 0 where it is longer.
+ */
+#define GATEWAY_MESSAGE_BYTES 4096
+#define GATEWAY_WITHDRAWAL_BYTES(length) ((size_t)24 + ((length) + 7) / 8)
+
+static inline size_t gateway_withdrawal_bytes(uint32_t length)
+{
+    return length > 32 ? 0 : GATEWAY_WITHDRAWAL_BYTES(length);
 }
 
 /*
@@ -189,9 +218,16 @@ struct gateway_claims {
     uint32_t vector;  /* bit L - 1 is set exactly if the filter of length L claims the address */
 };
 
+/* What a message answers. If it is refused, both counts are 0. */
+struct gateway_report {
+    uint32_t refusal;  /* GATEWAY_OK, or as of a lookup, GATEWAY_BAD_MESSAGE or GATEWAY_BAD_NEXT_HOP */
+    uint32_t accepted; /* how many of its routes the table took, withdrawn and announced ones */
+    uint32_t refused;  /* how many it refused; they are skipped */
+};
+
 /*
- * The exported functions. A program calls those on a table, at the end, which stand on these. Each of
- * these answers one 64-bit number whose parts are read by the functions that follow: a refusal begins
+ * The exported functions. A program calls those at the end, which stand on these. Each of these
+ * answers one 64-bit number whose parts are read by the functions that follow: a refusal begins
  * at bit 48, so the answer is not itself a GATEWAY_ number, and an int would lose it.
  */
 
@@ -245,6 +281,46 @@ GATEWAY_ANSWERS uint64_t gateway_lookup_list(uint32_t k, uint32_t d, uint32_t e,
                                              size_t addresses_bytes, uint8_t *results,
                                              size_t results_bytes);
 
+/*
+ * Does one message of a neighbour: an UPDATE of BGP (RFC 4271). Each route that it withdraws is withdrawn, as
+ * by gateway_withdraw, and then each that it announces is added, as by gateway_add, in the message's order.
+ * A route that the table refuses is counted and skipped, and the others are done. gateway_accepted and
+ * gateway_refused of the answer are the two counts. Together they are the routes of the message, of which
+ * there are at most 4073, so that each count fits into its 12 bits.
+ *
+ * The message is lent whole, from its marker to its end, in the bytes that came, on no boundary: its own
+ * length, which a stream of messages is cut by, stands in its bytes 16 and 17, the higher one first, and
+ * must be message_bytes, 23 to GATEWAY_MESSAGE_BYTES. Bits of a prefix after its length mean nothing and
+ * are cleared. Of the path attributes only NEXT_HOP counts; the others are stepped over. A session that has
+ * agreed on additional paths (RFC 7911) has a path's number before each prefix, which no message tells: agree
+ * on none.
+ *
+ * hops are the addresses of next hops, hops_words of them. The hop of the announced routes is the lowest
+ * place of NEXT_HOP there, from 0. The table keeps the number alone, so let an address keep its place: add
+ * new ones at the end. An empty list, NULL beside 0, does for messages that announce nothing.
+ *
+ * Refused are, in this order: GATEWAY_BAD_SETTINGS; GATEWAY_BAD_SIZE; GATEWAY_BAD_MESSAGE, if the marker is
+ * not sixteen bytes of 255, the length is not as above, the type is not 2 (UPDATE; so an OPEN or a KEEPALIVE
+ * is refused), a part runs past the end of what it stands in, a prefix is longer than 32, or NEXT_HOP comes
+ * twice or is not 4 bytes long; GATEWAY_BAD_NEXT_HOP, if routes are announced without a NEXT_HOP, or with one
+ * that the list does not have at a place up to 65535. Of a refused message no route is done: nothing is
+ * changed.
+ */
+GATEWAY_ANSWERS uint64_t gateway_update(uint32_t k, uint32_t d, uint32_t e, uint32_t s, uint32_t a,
+                                        uint32_t b, uint32_t c, uint8_t *counters,
+                                        size_t counters_bytes, uint32_t *slots, size_t slots_words,
+                                        const uint8_t *message, size_t message_bytes,
+                                        const uint32_t *hops, size_t hops_words);
+
+/*
+ * Writes the message that withdraws one route, to be sent to a neighbour; no table is asked or changed. The
+ * room is exactly gateway_withdrawal_bytes(length), 24 to 28 bytes. Of the answer only gateway_refusal is
+ * ever other than zero: GATEWAY_BAD_LENGTH, then GATEWAY_HOST_BIT, then GATEWAY_BAD_LIST if the room is
+ * larger or smaller. A refused call leaves the room as it was.
+ */
+GATEWAY_ANSWERS uint64_t gateway_write_withdrawal(uint32_t prefix, uint32_t length, uint8_t *room,
+                                                  size_t room_bytes);
+
 /* GATEWAY_OK, or why the call was refused; of any call's answer. */
 static inline uint32_t gateway_refusal(uint64_t answer)
 {
@@ -281,9 +357,22 @@ static inline uint32_t gateway_vector(uint64_t answer)
     return (uint32_t)(answer & 0xffffffff);
 }
 
+/* How many routes of the message were accepted; of the answer of gateway_update, as the one that follows. */
+static inline uint32_t gateway_accepted(uint64_t answer)
+{
+    return (uint32_t)(answer & 0xfff);
+}
+
+/* How many routes of the message were refused. */
+static inline uint32_t gateway_refused(uint64_t answer)
+{
+    return (uint32_t)(answer >> 12 & 0xfff);
+}
+
 /*
- * The calls on a table. They hand its parts on and take the answer apart, which costs nothing. The
- * refusal that they give is GATEWAY_OK or another of the numbers above, as it is.
+ * The calls on a table, and the message that needs none. They hand on what they are given and take the
+ * answer apart, which costs nothing. The refusal that they give is GATEWAY_OK or another of the numbers
+ * above, as it is.
  */
 
 #define GATEWAY_SETTINGS_OF(table)                                                                 \
@@ -359,6 +448,26 @@ gateway_table_match_vector(const struct gateway_table *table, uint32_t address)
         gateway_match_vector(GATEWAY_SETTINGS_OF(table), GATEWAY_BYTES_OF(table), address);
     const struct gateway_claims claims = {gateway_refusal(number), gateway_vector(number)};
     return claims;
+}
+
+/* Does one message of a neighbour, as gateway_update says: hops are count addresses, and the lowest place of
+   the message's NEXT_HOP among them is the hop of the routes that it announces. */
+GATEWAY_ANSWERS static inline struct gateway_report
+gateway_table_update(struct gateway_table *table, const uint8_t *message, size_t message_bytes,
+                     const uint32_t *hops, size_t count)
+{
+    const uint64_t number = gateway_update(GATEWAY_SETTINGS_OF(table), GATEWAY_WORDS_OF(table), message,
+                                           message_bytes, hops, count);
+    const struct gateway_report report = {gateway_refusal(number), gateway_accepted(number),
+                                          gateway_refused(number)};
+    return report;
+}
+
+/* Writes the message that withdraws a route, as gateway_write_withdrawal says. */
+GATEWAY_ANSWERS static inline uint32_t
+gateway_withdrawal_message(uint32_t prefix, uint32_t length, uint8_t *room, size_t room_bytes)
+{
+    return gateway_refusal(gateway_write_withdrawal(prefix, length, room, room_bytes));
 }
 
 #undef GATEWAY_SETTINGS_OF

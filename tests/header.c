@@ -2,20 +2,9 @@
 #include "gateway.h"
 #include "gateway.h" /* twice, as it happens in a large program */
 
-#include <stdio.h>
+#include "check.h"
+
 #include <string.h>
-
-static int wrong;
-
-static void check(int right, const char *what)
-{
-    if (!right) {
-        fprintf(stderr, "tests/header.c: %s\n", what);
-        wrong = 1;
-    }
-}
-
-#define CHECK(right) check(right, #right)
 
 int main(void)
 {
@@ -34,6 +23,16 @@ int main(void)
     CHECK(gateway_slots_words(9, 1) == 0 && gateway_slots_words(0, 0) == 0);
     CHECK(gateway_slots_words(0, 9) == 0 && gateway_slots_bytes(0, 9) == 0);
 
+    /* A withdrawal has 23 bytes, a length and the octets of its prefix. */
+    const uint8_t longest[GATEWAY_WITHDRAWAL_BYTES(32)] = {0};
+    CHECK(sizeof longest == 28 && gateway_withdrawal_bytes(32) == 28 && gateway_withdrawal_bytes(25) == 28);
+    CHECK(gateway_withdrawal_bytes(24) == 27 && gateway_withdrawal_bytes(17) == 27);
+    CHECK(gateway_withdrawal_bytes(16) == 26 && gateway_withdrawal_bytes(9) == 26);
+    CHECK(gateway_withdrawal_bytes(8) == 25 && gateway_withdrawal_bytes(1) == 25);
+    CHECK(gateway_withdrawal_bytes(0) == 24 && GATEWAY_WITHDRAWAL_BYTES(0) == 24);
+    CHECK(gateway_withdrawal_bytes(33) == 0 && gateway_withdrawal_bytes(UINT32_MAX) == 0);
+    CHECK(GATEWAY_MESSAGE_BYTES == 4096);
+
     /* refusal * 2^48 + found * 2^40 + hop * 2^16 + length * 2^8 + probes */
     const uint64_t found = ((uint64_t)1 << 40) + ((uint64_t)65535 << 16) + (32 << 8) + 31;
     CHECK(gateway_refusal(found) == GATEWAY_OK && gateway_found(found) == 1);
@@ -48,8 +47,21 @@ int main(void)
     /* refusal * 2^48 + vector */
     CHECK(gateway_vector(32896) == 32896 && gateway_vector(UINT32_MAX) == UINT32_MAX);
 
+    /* refusal * 2^48 + refused * 2^12 + accepted, whatever the bits between may come to hold */
+    const uint64_t counted = ((uint64_t)4072 << 12) + 1;
+    CHECK(gateway_refusal(counted) == GATEWAY_OK);
+    CHECK(gateway_refused(counted) == 4072 && gateway_accepted(counted) == 1);
+    const uint64_t full = (uint64_t)0xffffff << 24;
+    CHECK(gateway_refusal(full) == GATEWAY_OK && gateway_refused(full) == 0 && gateway_accepted(full) == 0);
+    CHECK(gateway_refused(full + 4095) == 0 && gateway_accepted(full + 4095) == 4095);
+    const uint64_t no_message = (uint64_t)12 << 48;
+    CHECK(gateway_refusal(no_message) == GATEWAY_BAD_MESSAGE && gateway_accepted(no_message) == 0);
+    CHECK(gateway_refusal((uint64_t)13 << 48) == GATEWAY_BAD_NEXT_HOP && gateway_refused(no_message) == 0);
+
     for (uint32_t refusal = GATEWAY_OK; refusal <= GATEWAY_COUNTER_SHORT; refusal++)
         CHECK(gateway_refusal_text(refusal) != gateway_refusal_text(UINT32_MAX));
+    CHECK(gateway_refusal_text(GATEWAY_BAD_MESSAGE) != gateway_refusal_text(UINT32_MAX));
+    CHECK(gateway_refusal_text(GATEWAY_BAD_NEXT_HOP) != gateway_refusal_text(UINT32_MAX));
     CHECK(gateway_refusal_text(GATEWAY_BAD_LIST) != gateway_refusal_text(UINT32_MAX));
     CHECK(GATEWAY_STORED == 6); /* given by no call, and not used anew */
 

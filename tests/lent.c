@@ -14,9 +14,10 @@
 #include <stdlib.h>
 #include <string.h>
 
-enum kind { CLEAR, ADD, WITHDRAW, CHANGE, VECTOR, LOOKUP, LIST, KINDS };
+enum kind { CLEAR, ADD, WITHDRAW, CHANGE, VECTOR, LOOKUP, LIST, MESSAGE, WRITE, KINDS };
 
-static const char *const names[KINDS] = {"clear", "add", "withdraw", "change", "match vector", "lookup", "list"};
+static const char *const names[KINDS] = {"clear",  "add",  "withdraw", "change",    "match vector",
+                                         "lookup", "list", "message",  "withdrawal"};
 
 static const struct calls library = CALLS_OF(gateway), hand = CALLS_OF(hand);
 
@@ -34,12 +35,15 @@ struct call {
 
 /* What one of the two is lent. An update is told of words of slots, a question of bytes. */
 struct lent {
-    struct list counters, slots, addresses, results;
+    struct list counters, slots;
+    struct list addresses, results; /* of a list */
+    struct list message, hops;      /* of a message that is read */
+    struct list room;               /* for one that is written */
 };
 
 enum { ROUTES = 24, MOST_NUMBERS = 19, SMALL = 1 << 14 };
 
-static uint64_t given[KINDS][MOST_NUMBERS];
+static uint64_t given[KINDS][MOST_NUMBERS], routes_accepted, routes_refused;
 static unsigned long long seed;
 static unsigned long table;
 
@@ -102,8 +106,12 @@ static uint64_t answer(const struct calls *calls, const struct call *c, const st
     case CHANGE: return calls->change(WORDS, c->asked, c->length, c->hop);
     case VECTOR: return calls->match_vector(BYTES, c->asked);
     case LOOKUP: return calls->lookup(BYTES, c->asked);
-    default:
+    case LIST:
         return calls->lookup_list(BYTES, m->addresses.at, m->addresses.size, m->results.at, m->results.size);
+    case MESSAGE:
+        return calls->update(WORDS, m->message.at, m->message.size, (const uint32_t *)(void *)m->hops.at,
+                             m->hops.size / 4);
+    default: return calls->write_withdrawal(c->asked, c->length, m->room.at, m->room.size);
     }
 }
 
@@ -125,8 +133,137 @@ static size_t perhaps_wrong(size_t size, uint32_t one_in_so_many)
     }
 }
 
+/* A message that is being made, with room for more than one may have. */
+struct bytes {
+    uint8_t at[2 * GATEWAY_MESSAGE_BYTES];
+    size_t size;
+};
+
+static void put(struct bytes *b, uint32_t byte)
+{
+    if (b->size < sizeof b->at)
+        b->at[b->size++] = (uint8_t)byte;
+}
+
+static void put_two(struct bytes *b, size_t at, size_t number)
+{
+    b->at[at] = (uint8_t)(number >> 8);
+    b->at[at + 1] = (uint8_t)number;
+}
+
+/* So many of the routes, with any bits after their lengths. */
+static void put_prefixes(struct bytes *b, const struct call routes[ROUTES], size_t many)
+{
+    while (many-- > 0) {
+        const struct call *route = &routes[random_below(ROUTES)];
+        if (route->length > 32 && !one_in(100))
+            continue;
+        const uint32_t loose = route->length > 31 || one_in(2) ? 0 : random_word() >> route->length;
+        put(b, route->length);
+        for (uint32_t i = 0; i < (route->length + 7) / 8; i++)
+            put(b, i > 3 ? 0 : (route->asked | loose) >> (24 - 8 * i));
+    }
+}
+
+static void put_attribute(struct bytes *b, uint32_t type, uint32_t size, uint32_t value)
+{
+    const uint32_t flags = random_word() & 0xef, extended = size > 255 || one_in(4);
+    put(b, extended ? flags | 0x10 : flags);
+    put(b, type);
+    if (extended)
+        put(b, size >> 8);
+    put(b, size);
+    for (uint32_t i = 0; i < size; i++)
+        put(b, size == 4 ? value >> (24 - 8 * i) : random_word());
+}
+
+static void put_attributes(struct bytes *b, uint32_t next_hop)
+{
+    static const uint32_t types[] = {0, 1, 2, 4, 5, 8, 14, 15, 255};
+    int missing = !one_in(10);
+    do {
+        if (missing && one_in(2)) {
+            put_attribute(b, 3, one_in(50) ? random_below(8) : 4, next_hop);
+            missing = one_in(50);
+        } else if (one_in(2)) {
+            put_attribute(b, types[random_below(sizeof types / sizeof types[0])],
+                          one_in(20) ? random_below(300) : random_below(9), random_word());
+        }
+    } while (missing || one_in(2));
+}
+
+static size_t random_many(void)
+{
+    return one_in(3) ? 0 : one_in(20) ? random_below(1500) : random_below(12);
+}
+
+/* A message that is good but for some of its routes and attributes, or too long. */
+static void make_message(struct bytes *b, const struct call routes[ROUTES], uint32_t next_hop)
+{
+    b->size = 21;
+    memset(b->at, 255, 16);
+    b->at[18] = 2;
+    put_prefixes(b, routes, random_many());
+    put_two(b, 19, b->size - 21);
+    const size_t at = b->size;
+    put(b, 0);
+    put(b, 0);
+    put_attributes(b, next_hop);
+    put_two(b, at, b->size - at - 2);
+    put_prefixes(b, routes, random_many());
+    put_two(b, 16, b->size);
+}
+
+/* Damages a message in one of several ways. */
+static void damage_message(struct bytes *b)
+{
+    const int says_so = one_in(2);
+    switch (random_below(7)) {
+    case 0: b->at[random_below((uint32_t)b->size)] ^= (uint8_t)(1 << random_below(8)); return;
+    case 1: b->at[random_below(b->size < 64 ? (uint32_t)b->size : 64)] = (uint8_t)random_word(); return;
+    case 2: b->at[19 + random_below((uint32_t)b->size - 19)] = (uint8_t)random_below(34); return;
+    case 3: put_two(b, 19, b->size - 19 - random_below(5)); return;
+    case 4: b->size = random_below((uint32_t)b->size); break;
+    case 5: b->size -= 1 + random_below(4); break;
+    default:
+        for (uint32_t more = 1 + random_below(4); more > 0; more--)
+            put(b, random_below(40));
+    }
+    if (says_so && b->size >= 18)
+        put_two(b, 16, b->size);
+}
+
+/* A message about the routes, most often a good one, and a list in which its next hop most often stands. */
+static void lend_message(struct lent *by_hand, struct lent *m, const struct call routes[ROUTES])
+{
+    static struct bytes message;
+    const uint32_t next_hop = random_below(8);
+    size_t many = one_in(8) ? random_below(3) : one_in(300) ? 65530 + random_below(12) : 6 + random_below(12);
+    make_message(&message, routes, next_hop);
+    if (one_in(3))
+        damage_message(&message);
+    by_hand->message = lend(message.size, 0);
+    if (message.size != 0)
+        memcpy(by_hand->message.at, message.at, message.size);
+    by_hand->hops = lend(4 * many, 0);
+    for (size_t i = 0; i < many; i++) {
+        const uint32_t address = many > 65000 && i < many - 6 ? 9 : random_below(8);
+        memcpy(by_hand->hops.at + 4 * i, &address, 4);
+    }
+    m->message = copy(&by_hand->message, random_below(4));
+    m->hops = copy(&by_hand->hops, 0);
+}
+
+/* Room that may hold anything. */
+static void lend_room(struct lent *by_hand, struct lent *m, const struct call *c)
+{
+    by_hand->room = lend(perhaps_wrong(gateway_withdrawal_bytes(c->length), 4), 0);
+    fill(&by_hand->room);
+    m->room = copy(&by_hand->room, random_below(4));
+}
+
 /* Addresses within the routes and elsewhere, and results that may hold anything. */
-static void lend_lists(struct lent *by_hand, struct lent *m, const struct call routes[ROUTES])
+static void lend_addresses(struct lent *by_hand, struct lent *m, const struct call routes[ROUTES])
 {
     size_t many = one_in(4) ? random_below(2) : one_in(16) ? random_below(200) : random_below(12);
     size_t bytes = perhaps_wrong(4 * many, 6);
@@ -143,28 +280,72 @@ static void lend_lists(struct lent *by_hand, struct lent *m, const struct call r
     m->results = copy(&by_hand->results, random_below(4));
 }
 
+/* What a call is lent beside the table. */
+static void lend_others(struct lent *by_hand, struct lent *m, const struct call *c, const struct call routes[ROUTES])
+{
+    if (c->kind == LIST)
+        lend_addresses(by_hand, m, routes);
+    else if (c->kind == MESSAGE)
+        lend_message(by_hand, m, routes);
+    else if (c->kind == WRITE)
+        lend_room(by_hand, m, c);
+}
+
 static void take_back(const struct list *list)
 {
     free(list->block);
 }
 
+static void take_back_others(const struct lent *m)
+{
+    take_back(&m->addresses);
+    take_back(&m->results);
+    take_back(&m->message);
+    take_back(&m->hops);
+    take_back(&m->room);
+}
+
+/* Lends a list anew, with nothing written to it: what it held is not needed. */
+static void forget(struct list *list)
+{
+    if (list->size == 0)
+        return;
+    const size_t offset = (size_t)(list->at - list->block);
+    take_back(list);
+    *list = lend(list->size, offset);
+}
+
 /* Makes a call of both. What by_hand is lent holds the same, but that m may lack what no answer needs. */
 static void compare(const struct call *c, const struct lent *by_hand, struct lent *m)
 {
-    uint64_t ours = answer(&hand, c, by_hand);
-    if (c->kind == LIST && ours == 0 && m->results.size != 0) {
-        /* An accepted list writes each byte of its results, so none need be written before. */
-        size_t offset = (size_t)(m->results.at - m->results.block);
-        take_back(&m->results);
-        m->results = lend(by_hand->results.size, offset);
+    const uint64_t ours = answer(&hand, c, by_hand);
+    const uint32_t refusal = gateway_refusal(ours);
+    const int unread = refusal == GATEWAY_BAD_SETTINGS || refusal == GATEWAY_BAD_SIZE;
+    if (ours == 0 && (c->kind == LIST || c->kind == WRITE)) {
+        /* Each byte is written, so that none need be before. */
+        forget(&m->results);
+        forget(&m->room);
+    } else if (c->kind == MESSAGE && (unread || refusal == GATEWAY_BAD_MESSAGE)) {
+        /* Of a bad message the next hops are not needed, and where settings or sizes are bad the message is not. */
+        forget(&m->hops);
+        if (unread)
+            forget(&m->message);
     }
-    uint64_t theirs = answer(&library, c, m);
+    const uint64_t theirs = answer(&library, c, m);
     check(theirs == ours, c, "answer");
-    check(gateway_refusal(ours) < MOST_NUMBERS, c, "number");
-    given[c->kind][gateway_refusal(ours)]++;
-    if (c->kind == LIST) {
-        check_lists(&m->addresses, &by_hand->addresses, c, "list of addresses");
-        check_lists(&m->results, &by_hand->results, c, "list of results");
+    check(refusal < MOST_NUMBERS, c, "number");
+    given[c->kind][refusal]++;
+    if (c->kind == MESSAGE) {
+        routes_accepted += gateway_accepted(ours);
+        routes_refused += gateway_refused(ours);
+    }
+    check_lists(&m->addresses, &by_hand->addresses, c, "list of addresses");
+    check_lists(&m->results, &by_hand->results, c, "list of results");
+    check_lists(&m->room, &by_hand->room, c, "room");
+    if (c->kind == MESSAGE && !unread) {
+        check_lists(&m->message, &by_hand->message, c, "message");
+        if (refusal != GATEWAY_BAD_MESSAGE)
+            check_lists(&m->hops, &by_hand->hops, c, "list of next hops");
     }
 }
 
@@ -213,35 +394,32 @@ static void call_wrongly(struct call c, const struct call routes[ROUTES])
         m.counters = copy(&by_hand.counters, 0);
         m.slots = copy(&by_hand.slots, asks(&c) ? random_below(4) : 0);
     }
-    if (c.kind == LIST)
-        lend_lists(&by_hand, &m, routes);
+    lend_others(&by_hand, &m, &c, routes);
     compare(&c, &by_hand, &m);
     if (refusal == GATEWAY_OK) {
         check_lists(&m.counters, &by_hand.counters, &c, "memory of the counters");
         check_lists(&m.slots, &by_hand.slots, &c, "memory of the slots");
     }
-    const struct list *const all[] = {&by_hand.counters, &by_hand.slots, &by_hand.addresses, &by_hand.results,
-                                      &m.counters,       &m.slots,       &m.addresses,       &m.results};
+    const struct list *const all[] = {&by_hand.counters, &by_hand.slots, &m.counters, &m.slots};
     for (size_t i = 0; i < sizeof all / sizeof all[0]; i++)
         take_back(all[i]);
+    take_back_others(&by_hand);
+    take_back_others(&m);
 }
 
 /* A call of a table. The library gets blocks of their own for lists, for slots that begin at an odd address,
    and for what the call has no need of, to which nothing was written. */
 static void call_rightly(const struct call *c, struct lent by_hand, struct lent m, const struct call routes[ROUTES])
 {
-    const struct list none = {NULL, NULL, 0};
-    struct list own = none;
+    struct list own = {NULL, NULL, 0};
     int small = m.slots.size < SMALL || one_in(16);
-    by_hand.addresses = by_hand.results = m.addresses = m.results = none;
     if (c->kind == VECTOR && one_in(2))
         m.slots = own = lend(m.slots.size, random_below(4));
     else if (c->kind == CHANGE && one_in(2))
         m.counters = own = lend(m.counters.size, 0);
     else if (asks(c) && small && one_in(2))
         m.slots = own = copy(&m.slots, random_below(4));
-    if (c->kind == LIST)
-        lend_lists(&by_hand, &m, routes);
+    lend_others(&by_hand, &m, c, routes);
     compare(c, &by_hand, &m);
     if (!asks(c) && small) {
         if (own.block == NULL)
@@ -249,16 +427,15 @@ static void call_rightly(const struct call *c, struct lent by_hand, struct lent 
         check_lists(&m.slots, &by_hand.slots, c, "memory of the slots");
     }
     take_back(&own);
-    take_back(&by_hand.addresses);
-    take_back(&by_hand.results);
-    take_back(&m.addresses);
-    take_back(&m.results);
+    take_back_others(&by_hand);
+    take_back_others(&m);
 }
 
 /* Which calls are made how often. */
 static enum kind random_kind(void)
 {
-    static const enum kind kinds[] = {ADD, ADD, ADD, ADD, WITHDRAW, WITHDRAW, CHANGE, VECTOR, LOOKUP, LOOKUP, LIST};
+    static const enum kind kinds[] = {ADD,    ADD,    ADD,    ADD,  WITHDRAW, WITHDRAW, CHANGE,
+                                      VECTOR, LOOKUP, LOOKUP, LIST, MESSAGE,  MESSAGE,  WRITE};
     return one_in(50) ? CLEAR : kinds[random_below(sizeof kinds / sizeof kinds[0])];
 }
 
@@ -301,7 +478,7 @@ static void run_table(void)
             c.asked |= random_word() >> random_below(32);
         if (!large && one_in(100))
             damage(&by_hand, &m);
-        if (one_in(8))
+        if (one_in(8) && c.kind != WRITE)
             call_wrongly(c, routes);
         else
             call_rightly(&c, by_hand, m, routes);
@@ -317,7 +494,7 @@ static void run_table(void)
 /* Says what was met, and ends in failure where a number was not. */
 static int tell(void)
 {
-    static const int numbers[] = {0, 1, 2, 3, 4, 5, 7, 8, 9, 10, 18};
+    static const int numbers[] = {0, 1, 2, 3, 4, 5, 7, 8, 9, 10, 12, 13, 18};
     int narrow = 0;
     uint64_t calls = 0;
     for (size_t i = 0; i < sizeof numbers / sizeof numbers[0]; i++) {
@@ -330,7 +507,10 @@ static int tell(void)
         calls += times;
     }
     for (int kind = 0; kind < KINDS; kind++)
-        narrow |= given[kind][0] == 0 || given[kind][1] == 0 || given[kind][2] == 0;
+        narrow |= given[kind][0] == 0 || (kind != WRITE && (given[kind][1] == 0 || given[kind][2] == 0));
+    narrow |= given[LIST][18] == 0 || given[WRITE][18] == 0 || routes_accepted == 0 || routes_refused == 0;
+    printf("  routes of messages: %llu accepted, %llu refused\n", (unsigned long long)routes_accepted,
+           (unsigned long long)routes_refused);
     printf("%llu calls on %lu tables, every answer and byte agrees\n", (unsigned long long)calls, table);
     if (narrow)
         printf("lent: too narrow a run: a call was never accepted, or a number never given\n");

@@ -2,23 +2,12 @@
  * The calls of gateway.h on a table, over the archive: worked cases of docs/TABLE.md, every refusal
  * as the plain number that it is, adds of what is stored, and what docs/SETTINGS.md says of ninety routes.
  */
+#include "check.h"
+
 #include <gateway.h>
 
-#include <stdio.h>
 #include <stdlib.h>
 #include <string.h>
-
-static int wrong;
-
-static void check(int right, const char *what)
-{
-    if (!right) {
-        fprintf(stderr, "tests/table.c: %s\n", what);
-        wrong = 1;
-    }
-}
-
-#define CHECK(right) check(right, #right)
 
 static int is(struct gateway_answer answer, uint32_t found, uint32_t hop, uint32_t length, uint32_t probes)
 {

@@ -1,0 +1,207 @@
+/*
+ * Does the messages of a neighbour that speaks BGP, and tells where addresses then go.
+ *
+ *     neighbour [NEXT_HOP]...
+ *
+ * The arguments are the addresses of next hops; the first is hop 0. Each line of standard input is one of
+ *
+ *     ff ff ff ...                an UPDATE message, two hexadecimal digits to a byte, with or without spaces
+ *     find 192.0.2.7              an address
+ *     withdrawal 10.0.0.0/8       a prefix
+ *
+ * For each, one line is written: how many of the message's routes the table accepted and refused; the next hop
+ * of the address and the route that it goes by, or "none"; the message that withdraws the prefix, which another
+ * neighbour can read. A line that is refused, or is none of these, is told on standard error and passed over; the
+ * exit status is then 1.
+ */
+#include "text.h"
+
+#include <gateway.h>
+
+#include <ctype.h>
+#include <stdio.h>
+#include <stdlib.h>
+#include <string.h>
+
+/* These hold ninety routes of each length with room to spare: docs/SETTINGS.md has others. */
+enum { K = 4, D = 10, E = 7, S = 8 };
+
+static uint8_t counters[GATEWAY_COUNTERS_BYTES(D)];
+static uint32_t slots[GATEWAY_SLOTS_WORDS(E, S)];
+static struct gateway_table table = {
+    .settings = {.k = K, .d = D, .e = E, .s = S, .a = GATEWAY_GOOD_A, .b = GATEWAY_GOOD_B, .c = GATEWAY_GOOD_C},
+    .counters = counters,
+    .counters_bytes = sizeof counters,
+    .slots = slots,
+    .slots_words = sizeof slots / sizeof slots[0],
+};
+
+/* The next hops that can be given, a line's characters that are kept, and those of them that are shown. */
+enum { MOST_HOPS = 256, LINE = 3 * GATEWAY_MESSAGE_BYTES, SHOWN = 64 };
+
+static uint32_t hops[MOST_HOPS];
+static size_t many_hops;
+
+static struct {
+    char text[LINE + 1];
+    size_t length; /* how many characters it has, also where not all are kept */
+    unsigned long number;
+} line;
+
+/* Reads the next line of standard input; 0 if there is none. */
+static int read_line(void)
+{
+    int c = getchar();
+    if (c == EOF)
+        return 0;
+    line.number++;
+    for (line.length = 0; c != EOF && c != '\n'; c = getchar(), line.length++)
+        if (line.length < LINE)
+            line.text[line.length] = (char)c;
+    line.text[line.length < LINE ? line.length : LINE] = '\0';
+    return 1;
+}
+
+static int at_end(const char *at)
+{
+    return (size_t)(at - line.text) == line.length;
+}
+
+/* Says on standard error what the line is not, and up to where it might have been. */
+static int unreadable(const char *wanted, const char *at)
+{
+    fprintf(stderr, "neighbour: line %lu, character %lu: not %s: ", line.number,
+            (unsigned long)(at - line.text) + 1, wanted);
+    show_text(line.text, line.length < SHOWN ? line.length : SHOWN);
+    return 0;
+}
+
+/* Whether a call was accepted; says on standard error why it was not. */
+static int accepted(uint32_t refusal)
+{
+    if (refusal == GATEWAY_OK)
+        return 1;
+    fprintf(stderr, "neighbour: ");
+    if (line.number > 0)
+        fprintf(stderr, "line %lu: ", line.number);
+    fprintf(stderr, "refused, number %u: %s\n", (unsigned)refusal, gateway_refusal_text(refusal));
+    return 0;
+}
+
+static void print_address(uint32_t address)
+{
+    printf("%u.%u.%u.%u", (unsigned)(address >> 24), (unsigned)(address >> 16 & 255),
+           (unsigned)(address >> 8 & 255), (unsigned)(address & 255));
+}
+
+static int read_digit(const char **text, unsigned *number)
+{
+    static const char digits[] = "0123456789abcdef";
+    const char *digit = **text == '\0' ? NULL : strchr(digits, tolower((unsigned char)**text));
+    if (digit == NULL)
+        return 0;
+    ++*text;
+    *number = *number << 4 | (unsigned)(digit - digits);
+    return 1;
+}
+
+static int do_message(const char *at)
+{
+    static uint8_t message[LINE / 2];
+    size_t size = 0;
+    while (!at_end(at)) {
+        unsigned byte = 0;
+        if (skip(&at, ' '))
+            continue;
+        if (!read_digit(&at, &byte) || !read_digit(&at, &byte))
+            return unreadable("a message in hexadecimal digits, find ADDRESS or withdrawal PREFIX", at);
+        message[size++] = (uint8_t)byte;
+    }
+    const struct gateway_report report = gateway_table_update(&table, message, size, hops, many_hops);
+    if (!accepted(report.refusal))
+        return 0;
+    printf("%u accepted, %u refused\n", (unsigned)report.accepted, (unsigned)report.refused);
+    return 1;
+}
+
+static int find(const char *at)
+{
+    uint32_t address;
+    if (!read_address(&at, &address) || !at_end(at))
+        return unreadable("an address (find 192.0.2.7 has one)", at);
+    const struct gateway_answer answer = gateway_table_lookup(&table, address);
+    if (!accepted(answer.refusal))
+        return 0;
+    if (answer.found) {
+        /* Only messages filled the table, so that each of its hops is a place in the list. */
+        print_address(hops[answer.hop]);
+        printf(" by ");
+        print_address(answer.length == 0 ? 0 : address & 0xffffffff << (32 - answer.length));
+        printf("/%u\n", (unsigned)answer.length);
+    } else {
+        printf("none\n");
+    }
+    return 1;
+}
+
+static int write_withdrawal(const char *at)
+{
+    uint8_t message[GATEWAY_WITHDRAWAL_BYTES(32)];
+    uint32_t prefix, length;
+    if (!read_prefix(&at, &prefix, &length) || !at_end(at))
+        return unreadable("a prefix (withdrawal 10.0.0.0/8 has one)", at);
+    const size_t size = gateway_withdrawal_bytes(length);
+    if (!accepted(gateway_withdrawal_message(prefix, length, message, size)))
+        return 0;
+    for (size_t i = 0; i < size; i++)
+        printf("%02x", (unsigned)message[i]);
+    printf("\n");
+    return 1;
+}
+
+static int do_line(void)
+{
+    static const char find_word[] = "find ", withdrawal_word[] = "withdrawal ";
+    if (line.length > LINE)
+        return unreadable("short enough for a message", line.text + LINE);
+    if (strncmp(line.text, find_word, strlen(find_word)) == 0)
+        return find(line.text + strlen(find_word));
+    if (strncmp(line.text, withdrawal_word, strlen(withdrawal_word)) == 0)
+        return write_withdrawal(line.text + strlen(withdrawal_word));
+    return do_message(line.text);
+}
+
+int main(int argc, char **argv)
+{
+    int status = EXIT_SUCCESS;
+
+    if (argc - 1 > MOST_HOPS) {
+        fprintf(stderr, "neighbour: more than %d next hops\n", MOST_HOPS);
+        return EXIT_FAILURE;
+    }
+    for (int i = 1; i < argc; i++) {
+        const char *at = argv[i];
+        if (!read_address(&at, &hops[many_hops++]) || *at != '\0') {
+            fprintf(stderr, "neighbour: not the address of a next hop: ");
+            show_text(argv[i], strlen(argv[i]));
+            return EXIT_FAILURE;
+        }
+    }
+    if (!accepted(gateway_table_clear(&table)))
+        return EXIT_FAILURE;
+
+    while (read_line()) {
+        if (!do_line())
+            status = EXIT_FAILURE;
+        fflush(stdout);
+    }
+    if (ferror(stdin)) {
+        fprintf(stderr, "neighbour: standard input cannot be read\n");
+        status = EXIT_FAILURE;
+    }
+    if (ferror(stdout)) {
+        fprintf(stderr, "neighbour: standard output cannot be written\n");
+        status = EXIT_FAILURE;
+    }
+    return status;
+}
