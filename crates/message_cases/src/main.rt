@@ -51,7 +51,7 @@ const LEND_COUNTERS: u32 = 14;
 // How many words are lent.
 const LEND_SLOTS: u32 = 15;
 
-const CASES: [u64; 357] = [
+const CASES: [u64; 360] = [
     // K 3, D 4, E 1, S 2 and unlike multipliers, over memory that was never cleared.
     0xa_03040102_00_00000,
     0xb_9e3779b1_00_00000,
@@ -59,7 +59,7 @@ const CASES: [u64; 357] = [
     0xd_c2b2ae3d_00_00000,
     0xe_00000200_00_00000,
     0xf_00000101_00_00000,
-    // The marker, and a list in which 10.9.9.1 has places 1 and 2.
+    // The marker, and a list in which 10.9.9.1 has places 1 and 2, and 10.7.9.1 place 3.
     0x2_ffffffff_00_00000,
     0x2_ffffffff_00_00004,
     0x2_ffffffff_00_00008,
@@ -67,6 +67,7 @@ const CASES: [u64; 357] = [
     0x5_0a090902_00_00000,
     0x5_0a090901_00_00001,
     0x5_0a090901_00_00002,
+    0x5_0a070901_00_00003,
     // The worked message: it withdraws 10.1.0.0/16, and announces 192.0.2.0/24 and the default with NEXT_HOP
     // 10.9.9.1. On that memory; on a table that holds nothing, twice; and on one that holds 10.1.0.0/16.
     0x2_002d0200_00_00010,
@@ -175,10 +176,11 @@ const CASES: [u64; 357] = [
     0xa_00040102_00_00000,
     0x3_00_ff_0002d_000003,
     0xa_03040102_00_00000,
-    // Flags and their low bits decide nothing else; NEXT_HOP at place 0; the list ends at place 1.
+    // Flags and their low bits decide nothing else; NEXT_HOP at places 0 and 3; the list ends at place 1.
     0x3_21_ef_0002d_000003,
     0x3_1e_00_0002d_000003,
     0x3_27_02_0002d_000003,
+    0x3_25_07_0002d_000004,
     0x3_00_ff_0002d_000002,
     // Other lengths of the prefixes: bits after them are cleared, and the bytes part otherwise.
     0x3_15_0f_0002d_000003,
@@ -414,6 +416,7 @@ const CASES: [u64; 357] = [
     0x4_c0000280_19_0001c,
     0x1_fedcba98_20_00007,
     0x4_fedcba98_20_0001c,
+    0x4_00ffffff_20_0001c,
     // Room of a byte too few or too many, and none.
     0x4_0a000000_08_00018,
     0x4_0a000000_08_0001a,
