@@ -1,10 +1,41 @@
 //! The calls as a driver makes them: which numbers and lists go in. No rule stands here.
 
-/// The seven settings of a table, as any caller may give them, good or bad.
+/// The list of filter sizes that a caller lends: any bytes, at most 40 of them here.
+#[derive(Clone, Copy, Debug, PartialEq, Eq)]
+pub struct Sizes {
+    count: usize,
+    values: [u8; 40],
+}
+
+impl Sizes {
+    /// One value at each of the 32 lengths.
+    pub const fn equal(d: u8) -> Sizes {
+        let (mut values, mut at) = ([0; 40], 0);
+        while at < 32 {
+            values[at] = d;
+            at += 1;
+        }
+        Sizes { count: 32, values }
+    }
+
+    /// Any list of at most 40 values.
+    pub fn of(values: &[u8]) -> Sizes {
+        let mut filled = [0; 40];
+        filled[..values.len()].copy_from_slice(values);
+        Sizes { count: values.len(), values: filled }
+    }
+
+    /// The values lent, length 1 first.
+    pub fn values(&self) -> &[u8] {
+        &self.values[..self.count]
+    }
+}
+
+/// The settings of a table, as any caller may give them, good or bad.
 #[derive(Clone, Copy, Debug, PartialEq, Eq)]
 pub struct Settings {
     pub k: u32,
-    pub d: u32,
+    pub d: Sizes,
     pub e: u32,
     pub s: u32,
     pub a: u32,

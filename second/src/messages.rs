@@ -84,7 +84,8 @@ impl Update<'_> {
         }
         let call = Call::Add { prefix: 0, length: 0, hop: 0 };
         match answer(self.t, &mut [], &mut [], self.lent, call, self.rules_slip()) / REFUSAL {
-            number @ (1 | 2) => number,
+            // Only a slip gives 18.
+            number @ (1 | 2 | 18) => number,
             _ => 0,
         }
     }

@@ -95,7 +95,22 @@ impl Routes {
         if length == 0 {
             return Route { prefix, length, hop, positions: Vec::new(), bucket: 0 };
         }
-        Route { prefix, length, hop, positions: positions(&self.t, prefix), bucket: bucket(&self.t, prefix) }
+        let positions = self.positions(length, prefix);
+        Route { prefix, length, hop, positions, bucket: bucket(&self.t, prefix) }
+    }
+
+    /// The positions of a prefix in the filter of its length.
+    fn positions(&self, length: u32, p: u32) -> Vec<usize> {
+        let by = match self.slip {
+            Some(Slip::PaperPositionsFirst) => 1,
+            Some(Slip::PaperPositionsLast) => 32,
+            Some(Slip::PaperPositionsNext) => (length + 1).min(32),
+            Some(Slip::PaperPositionsLargest) => {
+                (1..=32).max_by_key(|by| self.t.d.values().get(*by as usize - 1)).unwrap_or(length)
+            }
+            _ => length,
+        };
+        positions(&self.t, by, p)
     }
 
     /// Where in the list a route stands.
@@ -244,7 +259,10 @@ impl Routes {
         let p = prefix(length, address);
         let any_length = self.is(Slip::PaperProbesAnyLength);
         let stored = || self.list.iter().filter(|route| route.length == length || any_length);
-        let asked = positions(&self.t, p);
+        let asked = match self.slip {
+            Some(Slip::PaperAskedFirst) => positions(&self.t, 1, p),
+            _ => self.positions(length, p),
+        };
         let owned = |j: &usize| stored().any(|route| route.positions.contains(j));
         match self.slip {
             Some(Slip::PaperProbesInUse) => stored().count() > 0,

@@ -4,11 +4,11 @@
 //! purpose; of `or(right, slip, wrong)` the first value is right. Memory is reached through checked places,
 //! so that a slip gone astray reads zero and writes nothing.
 
-use super::calls::{Call, Lent, Settings};
+use super::calls::{Call, Lent, Settings, Sizes};
 use super::slips::{swapped, unasked, walks, Slip};
 
-/// The settings of the small worked table.
-pub const T: Settings = Settings { k: 2, d: 4, e: 1, s: 2, a: 1, b: 2, c: 1 };
+/// The settings of the small worked table: its filters are all of one size.
+pub const T: Settings = Settings { k: 2, d: Sizes::equal(4), e: 1, s: 2, a: 1, b: 2, c: 1 };
 
 /// 2^n, held at the greatest 64-bit number (which only bad settings reach).
 fn two_to(n: u32) -> u64 {
@@ -18,6 +18,46 @@ fn two_to(n: u32) -> u64 {
 /// x·y modulo 2^32.
 fn product(x: u32, y: u32) -> u64 {
     x as u64 * y as u64 % two_to(32)
+}
+
+// ---- The list of filter sizes ----
+
+/// The D of a length, from 1. A length that the list leaves out, which only a slip asks for, has 0.
+fn d_of(t: &Settings, length: u32) -> u32 {
+    let place = (length as usize).checked_sub(1);
+    place.and_then(|at| t.d.values().get(at)).map_or(0, |d| *d as u32)
+}
+
+fn largest(t: &Settings) -> u32 {
+    t.d.values().iter().max().map_or(0, |d| *d as u32)
+}
+
+fn smallest(t: &Settings) -> u32 {
+    t.d.values().iter().min().map_or(0, |d| *d as u32)
+}
+
+/// How many counters the filters of some values have together, held at the greatest 64-bit number.
+fn together(values: &[u8]) -> u64 {
+    values.iter().fold(0, |sum, d| sum.saturating_add(two_to(*d as u32)))
+}
+
+/// The settings as a call takes them: the list as it was lent, unless a slip makes another of it.
+fn taken(t: &Settings, slip: Option<Slip>) -> Settings {
+    let mut list = t.d.values().to_vec();
+    match (slip, list.len()) {
+        (Some(Slip::DShortFilled), 31) => list.push(4),
+        (Some(Slip::DShortLastAgain), 31) => list.push(list[30]),
+        (Some(Slip::DLongCut), 33) => list.truncate(32),
+        (Some(Slip::DEmptyPasses), 0) | (Some(Slip::DCountUnasked), _) => list.resize(32, 4),
+        (Some(Slip::DOneForAll), 1) => list.resize(32, list[0]),
+        (Some(Slip::DTurned), _) => list.reverse(),
+        (Some(Slip::DOneAhead), 2..) => {
+            list.remove(0);
+            list.push(list[list.len() - 1]);
+        }
+        _ => (),
+    }
+    Settings { d: Sizes::of(&list), ..*t }
 }
 
 // ---- Prefix, positions, bucket ----
@@ -41,12 +81,12 @@ fn cut(length: u32, address: u32, slip: Option<Slip>) -> u32 {
     (address as u64 / unit * unit) as u32
 }
 
-/// The K filter positions of a prefix, in the order of the steps.
-pub fn positions(t: &Settings, p: u32) -> Vec<usize> {
-    steps(t, p, None)
+/// The K positions of a prefix in the filter of its length, in the order of the steps.
+pub fn positions(t: &Settings, length: u32, p: u32) -> Vec<usize> {
+    steps(t, length, p, None)
 }
 
-fn steps(t: &Settings, p: u32, slip: Option<Slip>) -> Vec<usize> {
+fn steps(t: &Settings, length: u32, p: u32, slip: Option<Slip>) -> Vec<usize> {
     let (a, b) = if slip == Some(Slip::AAndBSwapped) { (t.b, t.a) } else { (t.a, t.b) };
     let top = two_to(32) - 1;
     let stride = match slip {
@@ -60,19 +100,20 @@ fn steps(t: &Settings, p: u32, slip: Option<Slip>) -> Vec<usize> {
         Some(Slip::StartSticks) => top.min(a as u64 * p as u64),
         _ => product(a, p),
     };
-    grown(t, start, stride, slip)
+    grown(t, length, start, stride, slip)
 }
 
-/// The positions of g from its start, with what it grows by between them.
-fn grown(t: &Settings, start: u64, stride: u64, slip: Option<Slip>) -> Vec<usize> {
+/// The positions of g in a length's filter, from its start, with what it grows by between them.
+fn grown(t: &Settings, length: u32, start: u64, stride: u64, slip: Option<Slip>) -> Vec<usize> {
     let count = match slip {
         Some(Slip::StepFewer) => t.k.saturating_sub(1),
         Some(Slip::StepMore) => t.k + 1,
         _ => t.k,
     };
+    let d = position_d(t, length, slip);
     let (mut g, mut found) = (start, Vec::new());
     for _ in 0..count {
-        found.push(position(t, g, slip) as usize);
+        found.push(position(d, g, slip) as usize);
         g = match slip {
             Some(Slip::SumSticks) => (two_to(32) - 1).min(g + stride),
             Some(Slip::SumUnwrapped) => g + stride,
@@ -82,13 +123,27 @@ fn grown(t: &Settings, start: u64, stride: u64, slip: Option<Slip>) -> Vec<usize
     found
 }
 
-/// The position that one value of g gives.
-fn position(t: &Settings, g: u64, slip: Option<Slip>) -> u64 {
+/// The D that positions at a length are taken by.
+fn position_d(t: &Settings, length: u32, slip: Option<Slip>) -> u32 {
     match slip {
-        Some(Slip::PositionLowBits) => g % two_to(t.d),
-        Some(Slip::PositionBitFewer) => g / two_to(33 - t.d),
-        Some(Slip::PositionRoundedUp) => g.div_ceil(two_to(32 - t.d)),
-        _ => g / two_to(32 - t.d),
+        Some(Slip::PositionByFirst) => d_of(t, 1),
+        Some(Slip::PositionByLast) => d_of(t, 32),
+        Some(Slip::PositionByNext) => d_of(t, length.saturating_add(1).min(32)),
+        Some(Slip::PositionByBefore) => d_of(t, length.saturating_sub(1).max(1)),
+        Some(Slip::PositionByLargest) => largest(t),
+        Some(Slip::PositionBySmallest) => smallest(t),
+        _ => d_of(t, length),
+    }
+}
+
+/// The position that one value of g gives in a filter of 2^d counters. Only a slip lets d pass 11.
+fn position(d: u32, g: u64, slip: Option<Slip>) -> u64 {
+    let dropped = 32u32.saturating_sub(d);
+    match slip {
+        Some(Slip::PositionLowBits) => g % two_to(d),
+        Some(Slip::PositionBitFewer) => g / two_to(dropped + 1),
+        Some(Slip::PositionRoundedUp) => g.div_ceil(two_to(dropped)),
+        _ => g / two_to(dropped),
     }
 }
 
@@ -114,9 +169,26 @@ fn bucket_of(t: &Settings, p: u32, slip: Option<Slip>) -> u64 {
 
 // ---- Sizes and places ----
 
-/// How many counters, one byte each.
+/// How many counters, one byte each: those of every value in the list, however many there are.
 pub fn counter_bytes(t: &Settings) -> usize {
-    32u64.saturating_mul(two_to(t.d)) as usize
+    together(t.d.values()) as usize
+}
+
+/// The number of counters that a call asks for.
+fn counters_asked(t: &Settings, slip: Option<Slip>) -> usize {
+    let sum = together(t.d.values());
+    let (first, last) = (two_to(d_of(t, 1)), two_to(d_of(t, 32)));
+    let asked = match slip {
+        Some(Slip::CountersRowMore) => sum.saturating_add(last),
+        Some(Slip::CountersRowFewer) => sum.saturating_sub(last),
+        Some(Slip::CountersFirstLeft) => sum.saturating_sub(first),
+        Some(Slip::CountersByFirst) => first.saturating_mul(32),
+        Some(Slip::CountersByLast) => last.saturating_mul(32),
+        Some(Slip::CountersByLargest) => two_to(largest(t)).saturating_mul(32),
+        Some(Slip::CountersSum16Bits) => sum % 65_536,
+        _ => sum,
+    };
+    asked as usize
 }
 
 /// How many words of slot memory, the default's mark included.
@@ -130,12 +202,38 @@ pub fn counter_at(t: &Settings, length: u32, position: usize) -> usize {
 }
 
 fn counter_of(t: &Settings, length: u32, position: usize, slip: Option<Slip>) -> u64 {
-    let (row, j) = (length as u64 - 1, position as u64);
+    let j = position as u64;
     match slip {
-        Some(Slip::CounterRowL) => (row + 1) * two_to(t.d) + j,
-        Some(Slip::CounterColumns) => j * 32 + row,
-        _ => row * two_to(t.d) + j,
+        Some(Slip::CounterColumns) => column_place(t, length, j),
+        _ => filter_start(t, length, slip).saturating_add(j),
     }
+}
+
+/// The byte at which the filter of a length begins: just after those of all shorter lengths.
+fn filter_start(t: &Settings, length: u32, slip: Option<Slip>) -> u64 {
+    let values = t.d.values();
+    let row = length.saturating_sub(1) as usize;
+    let sum = |from: usize, to: usize| together(&values[from.min(values.len())..to.min(values.len())]);
+    let rows_of = |d: u32| two_to(d).saturating_mul(row as u64);
+    match slip {
+        Some(Slip::CounterRowL) => sum(0, row + 1),
+        Some(Slip::FilterRowFewer) => sum(0, row.saturating_sub(1)),
+        Some(Slip::FilterSumsAbove) => sum(1, row + 1),
+        Some(Slip::FilterSumsBelow) if row > 0 => sum(0, 1).saturating_add(sum(0, row - 1)),
+        Some(Slip::FilterRowsOwn) => rows_of(d_of(t, length)),
+        Some(Slip::FilterRowsFirst) => rows_of(d_of(t, 1)),
+        Some(Slip::FilterRowsLargest) => rows_of(largest(t)),
+        Some(Slip::FiltersTurned) => sum(row + 1, 32),
+        Some(Slip::FilterSumsD) => values.iter().take(row).map(|d| *d as u64).sum(),
+        _ => sum(0, row),
+    }
+}
+
+/// A slip's: the byte of a counter if all filters' counters 0 come first, then all their counters 1, and on.
+fn column_place(t: &Settings, length: u32, j: u64) -> u64 {
+    let sizes = || t.d.values().iter().map(|d| two_to(*d as u32));
+    let before = sizes().fold(0u64, |sum, size| sum.saturating_add(size.min(j)));
+    before.saturating_add(sizes().take(length as usize - 1).filter(|size| *size > j).count() as u64)
 }
 
 /// The number of slot 0 in the bucket of a prefix.
@@ -163,9 +261,10 @@ pub fn answer(
     call: Call,
     slip: Option<Slip>,
 ) -> u64 {
-    let bytes = counters.len().min(lent.counters).min(counter_bytes(t));
-    let words = slots.len().min(lent.slots / call.units()).min(slot_words(t));
-    let mut table = Table { t: *t, counters: &mut counters[..bytes], slots: &mut slots[..words], slip };
+    let t = taken(t, slip);
+    let bytes = counters.len().min(lent.counters).min(counter_bytes(&t));
+    let words = slots.len().min(lent.slots / call.units()).min(slot_words(&t));
+    let mut table = Table { t, counters: &mut counters[..bytes], slots: &mut slots[..words], slip };
     let asked = Asked::of(call, slip);
     let numbers = numbers(call, slip);
     if let Some(refusal) = numbers.into_iter().find(|number| table.given(*number, lent, call, asked)) {
@@ -260,7 +359,8 @@ impl Table<'_> {
         let stored = || self.stored(p, length, call);
         let unstored = |slip: Slip| !stored() || self.is(slip);
         match number {
-            1 => self.settings_bad(),
+            1 => self.settings_bad() || self.list_bad(lent, call),
+            2 if self.is(Slip::DCountGives2) && self.count_wrong() => true,
             2 => self.sizes_wrong(lent, call),
             3 => self.too_long(length),
             4 => self.bit_after(p, length),
@@ -284,27 +384,62 @@ impl Table<'_> {
         }
     }
 
-    fn settings_bad(&self) -> bool {
-        let end = |right: u32, lower: Slip, higher: Slip| match self.slip {
+    /// One end of a range; one less or one more if a slip that is named moves it.
+    fn end(&self, right: u32, lower: Slip, higher: Slip) -> u32 {
+        match self.slip {
             Some(slip) if slip == lower => right - 1,
             Some(slip) if slip == higher => right + 1,
             _ => right,
-        };
-        let outside = |value: u32, least: u32, most: u32| value < least || value > most;
-        let Settings { k, d, e, s, a, b, c } = self.t;
-        outside(k, end(1, Slip::KFrom0, Slip::KFrom2), end(8, Slip::KTo7, Slip::KTo9))
-            || outside(d, end(4, Slip::DFrom3, Slip::DFrom5), end(11, Slip::DTo10, Slip::DTo12))
-            || outside(e, self.or(0, Slip::EFrom1, 1), end(8, Slip::ETo7, Slip::ETo9))
-            || outside(s, end(1, Slip::SFrom0, Slip::SFrom2), end(8, Slip::STo7, Slip::STo9))
+        }
+    }
+
+    /// Whether a setting other than the list is out of its range.
+    fn settings_bad(&self) -> bool {
+        let Settings { k, e, s, a, b, c, .. } = self.t;
+        outside(k, self.end(1, Slip::KFrom0, Slip::KFrom2), self.end(8, Slip::KTo7, Slip::KTo9))
+            || outside(e, self.or(0, Slip::EFrom1, 1), self.end(8, Slip::ETo7, Slip::ETo9))
+            || outside(s, self.end(1, Slip::SFrom0, Slip::SFrom2), self.end(8, Slip::STo7, Slip::STo9))
             || self.is(Slip::ZeroMultiplierBad) && (a == 0 || b == 0 || c == 0)
+    }
+
+    /// Whether the list of filter sizes has another count than 32 or a value out of range.
+    fn list_bad(&self, lent: Lent, call: Call) -> bool {
+        let (count, values) = (self.count_wrong(), self.values_bad());
+        match self.slip {
+            Some(Slip::SizeBeforeList) if self.sizes_wrong(lent, call) => false,
+            Some(Slip::SizeBeforeCount) if self.sizes_wrong(lent, call) => values,
+            Some(Slip::DCountGives2) => values,
+            _ => count || values,
+        }
+    }
+
+    fn count_wrong(&self) -> bool {
+        self.t.d.values().len() != 32
+    }
+
+    fn values_bad(&self) -> bool {
+        let least = self.end(4, Slip::DFrom3, Slip::DFrom5);
+        let most = self.end(11, Slip::DTo10, Slip::DTo12);
+        let values = self.t.d.values();
+        let bad = |d: &u8| outside(*d as u32, least, most);
+        match self.slip {
+            Some(Slip::DFirstUnasked) => values.iter().skip(1).any(bad),
+            Some(Slip::DLastUnasked) => values.iter().rev().skip(1).any(bad),
+            Some(Slip::DFirstOnly) => values.iter().take(1).any(bad),
+            Some(Slip::DLastOnly) => values.iter().rev().take(1).any(bad),
+            Some(Slip::DLargestOnly) => values.iter().max().is_some_and(bad),
+            Some(Slip::DSmallestOnly) => values.iter().min().is_some_and(bad),
+            Some(Slip::DOneEnough) => values.iter().all(bad),
+            Some(Slip::DZeroPasses) => values.iter().any(|d| *d != 0 && bad(d)),
+            _ => values.iter().any(bad),
+        }
     }
 
     fn sizes_wrong(&self, lent: Lent, call: Call) -> bool {
         let units = self.or(call.units(), Slip::SlotsBytesAsWords, 1);
         let words = slot_words(&self.t) - self.or(0, Slip::SlotsNoDefault, 1);
         let slots = words.saturating_mul(units);
-        let rows = self.or(32, Slip::CountersRowMore, 33);
-        let counters = counter_bytes(&self.t) / 32 * rows;
+        let counters = counters_asked(&self.t, self.slip);
         match self.slip {
             Some(Slip::CountersLonger) => lent.counters < counters || lent.slots != slots,
             Some(Slip::CountersShorter) => lent.counters > counters || lent.slots != slots,
@@ -373,7 +508,10 @@ impl Table<'_> {
             Some(Slip::RoomTo16) => 16,
             _ => 15,
         };
-        let hit = self.steps(p);
+        let hit = match self.slip {
+            Some(Slip::RoomByFirst) => self.steps(1, p),
+            _ => self.steps(length, p),
+        };
         let wanted = |j: usize| match self.slip {
             Some(Slip::RoomWithoutHits) => 1,
             Some(Slip::RoomSeesRaised) if Some(&j) == hit.first() => hits(&hit, j) + 1,
@@ -382,14 +520,17 @@ impl Table<'_> {
         let over = |j: usize| self.counter(length, j) + wanted(j) > most;
         match self.slip {
             Some(Slip::RoomFirstOnly) => hit.iter().take(1).any(|j| over(*j)),
-            Some(Slip::RoomEverywhere) => (0..two_to(self.t.d)).any(|j| over(j as usize)),
+            Some(Slip::RoomEverywhere) => (0..two_to(d_of(&self.t, length))).any(|j| over(j as usize)),
             _ => hit.iter().any(|j| over(*j)),
         }
     }
 
     /// Whether some counter that the prefix hits holds less than its hits.
     fn too_few(&self, p: u32, length: u32) -> bool {
-        let hit = self.steps(p);
+        let hit = match self.slip {
+            Some(Slip::HitsByFirst) => self.steps(1, p),
+            _ => self.steps(length, p),
+        };
         hit.iter().any(|j| match self.slip {
             Some(Slip::HitsOne) => self.counter(length, *j) < 1,
             Some(Slip::HitsOneMore) => self.counter(length, *j) <= hits(&hit, *j),
@@ -404,7 +545,7 @@ impl Table<'_> {
             (Some(Slip::ClearLate), _, Call::Clear) => self.clear(),
             _ if length == 0 => (),
             (Some(Slip::FullLate), 8, _) | (Some(Slip::RoomLate), 9, _) => {
-                for j in self.steps(p).into_iter().take(1) {
+                for j in self.steps(length, p).into_iter().take(1) {
                     self.set_counter(length, j, self.counter(length, j) + 1);
                 }
             }
@@ -414,6 +555,10 @@ impl Table<'_> {
             _ => (),
         }
     }
+}
+
+fn outside(value: u32, least: u32, most: u32) -> bool {
+    value < least || value > most
 }
 
 /// How often a position occurs among the steps.
@@ -428,13 +573,16 @@ impl Table<'_> {
         cut(length, address, self.slip)
     }
 
-    fn steps(&self, p: u32) -> Vec<usize> {
-        steps(&self.t, p, self.slip)
+    fn steps(&self, length: u32, p: u32) -> Vec<usize> {
+        steps(&self.t, length, p, self.slip)
+    }
+
+    fn byte(&self, at: u64) -> u64 {
+        self.counters.get(at as usize).map_or(0, |byte| *byte as u64)
     }
 
     fn counter(&self, length: u32, j: usize) -> u64 {
-        let at = counter_of(&self.t, length, j, self.slip) as usize;
-        self.counters.get(at).map_or(0, |byte| *byte as u64)
+        self.byte(counter_of(&self.t, length, j, self.slip))
     }
 
     fn set_counter(&mut self, length: u32, j: usize, value: u64) {
@@ -564,6 +712,7 @@ impl Table<'_> {
         let bytes = match self.slip {
             Some(Slip::ClearKeepsCounters) => 0,
             Some(Slip::ClearKeepsLastCounter) => self.counters.len().saturating_sub(1),
+            Some(Slip::ClearByFirst) => self.counters.len().min(32 * two_to(d_of(&self.t, 1)) as usize),
             _ => self.counters.len(),
         };
         let words = match self.slip {
@@ -679,11 +828,11 @@ impl Table<'_> {
 
     /// Each step adds one to its counter.
     fn raise(&mut self, length: u32, p: u32) {
-        for j in self.counted(p, Slip::AddDoubledOnce) {
+        for j in self.counted(self.steps(length, p), Slip::AddDoubledOnce) {
             let now = self.counter(length, j);
             let next = match self.slip {
                 Some(Slip::AddCountersLeft) => now,
-                Some(Slip::AddFirstCounter) if Some(&j) != self.steps(p).first() => now,
+                Some(Slip::AddFirstCounter) if Some(&j) != self.steps(length, p).first() => now,
                 Some(Slip::AddSetsOne) => 1,
                 Some(Slip::AddSticksAt15) if now >= 15 => now,
                 _ => now + 1,
@@ -694,7 +843,8 @@ impl Table<'_> {
 
     /// Each step takes one from its counter.
     fn lower(&mut self, length: u32, p: u32) {
-        for j in self.counted(p, Slip::WithdrawDoubledOnce) {
+        let by = self.or(length, Slip::WithdrawByFirst, 1);
+        for j in self.counted(self.steps(by, p), Slip::WithdrawDoubledOnce) {
             let now = self.counter(length, j);
             let next = match self.slip {
                 Some(Slip::WithdrawZeroesCounters) => 0,
@@ -707,9 +857,8 @@ impl Table<'_> {
         }
     }
 
-    /// The steps of a prefix; with the named slip, each position once.
-    fn counted(&self, p: u32, once: Slip) -> Vec<usize> {
-        let mut steps = self.steps(p);
+    /// The steps as they are; with the named slip, each position once.
+    fn counted(&self, mut steps: Vec<usize>, once: Slip) -> Vec<usize> {
         if self.is(once) {
             steps.sort();
             steps.dedup();
@@ -723,20 +872,20 @@ impl Table<'_> {
 impl Table<'_> {
     /// Whether no counter of the prefix is zero.
     fn claimed(&self, length: u32, p: u32) -> bool {
-        self.all_count(length, self.steps(p))
+        self.all_count(self.steps(length, p).into_iter().map(|j| self.counter(length, j)))
     }
 
-    /// Whether no counter at the steps is zero.
-    fn all_count(&self, length: u32, steps: Vec<usize>) -> bool {
-        let counts = |j: &usize| match self.slip {
-            Some(Slip::VectorAboveOne) => self.counter(length, *j) > 1,
-            Some(Slip::VectorNibble) => self.counter(length, *j) & 15 != 0,
-            _ => self.counter(length, *j) != 0,
+    /// Whether no counter, of those read at the steps, is zero.
+    fn all_count(&self, mut counters: impl Iterator<Item = u64>) -> bool {
+        let counts = |counter: u64| match self.slip {
+            Some(Slip::VectorAboveOne) => counter > 1,
+            Some(Slip::VectorNibble) => counter & 15 != 0,
+            _ => counter != 0,
         };
         match self.slip {
-            Some(Slip::VectorAnyCounter) => steps.iter().any(counts),
-            Some(Slip::VectorFirstCounter) => steps.iter().take(1).all(counts),
-            _ => steps.iter().all(counts),
+            Some(Slip::VectorAnyCounter) => counters.any(counts),
+            Some(Slip::VectorFirstCounter) => counters.take(1).all(counts),
+            _ => counters.all(counts),
         }
     }
 
@@ -838,6 +987,7 @@ impl Table<'_> {
     fn refused(&self, refusal: u64, call: Call) -> u64 {
         match self.slip {
             Some(Slip::RefusalAt40) => refusal * two_to(40),
+            Some(Slip::DCountGives18) if refusal == 1 && self.count_wrong() => 18 * two_to(48),
             Some(Slip::RefusedWithOne) if call.units() == 4 => refusal * two_to(48) + 1,
             _ => refusal * two_to(48),
         }
@@ -850,7 +1000,8 @@ impl Table<'_> {
 
 /// Whether the walk without a slip comes, at each length from 32 down to 1, to what a cut there gives.
 pub fn walk_agrees(address: u32) -> bool {
-    let t = Settings { a: 3, b: 5, ..T };
+    let sizes: Vec<u8> = (1..=32).map(|length| 4 + length * 5 % 8).collect();
+    let t = Settings { d: Sizes::of(&sizes), a: 3, b: 5, ..T };
     let table = Table { t, counters: &mut [], slots: &mut [], slip: None };
     let cuts = (1..=32).rev().map(|length| Stage::cut(&t, length, address));
     table.walk(address).into_iter().eq(cuts)
@@ -867,12 +1018,15 @@ struct Stage {
     stride: u64,
     /// The length whose filter is asked.
     filter: u32,
+    /// The byte at which that filter begins.
+    base: u64,
 }
 
 impl Stage {
     fn cut(t: &Settings, length: u32, address: u32) -> Stage {
         let p = prefix(length, address);
-        Stage { length, p, start: product(t.a, p), stride: product(t.b, p), filter: length }
+        let (start, stride, base) = (product(t.a, p), product(t.b, p), filter_start(t, length, None));
+        Stage { length, p, start, stride, filter: length, base }
     }
 }
 
@@ -886,14 +1040,16 @@ impl Table<'_> {
     fn walk(&self, address: u32) -> Vec<Stage> {
         let address = self.or(address, Slip::WalkFrom31, prefix(31, address));
         let filter = self.or(32, Slip::WalkFilterBelow, 31);
-        let mut stages = vec![Stage { filter, ..Stage::cut(&self.t, 32, address) }];
+        let base = filter_start(&self.t, filter, None);
+        let mut stages = vec![Stage { filter, base, ..Stage::cut(&self.t, 32, address) }];
         for at in 0..31 {
             stages.push(self.next(stages[at]));
         }
         stages
     }
 
-    /// One length down the prefix loses one bit, and its products lose what that bit made.
+    /// One length down the prefix loses one bit, and its products lose what that bit made; the filter begins
+    /// earlier by its own size.
     fn next(&self, last: Stage) -> Stage {
         let Settings { a, b, .. } = self.t;
         let (length, bit) = (last.length - 1, two_to(32 - last.length));
@@ -914,7 +1070,15 @@ impl Table<'_> {
             Some(Slip::WalkFilterIfSet) if lost == 0 => last.filter,
             _ => last.filter - 1,
         };
-        Stage { length, p: less(last.p as u64, lost as u64) as u32, start, stride, filter }
+        let size = match self.slip {
+            _ if filter == last.filter => 0,
+            Some(Slip::WalkBaseByAbove) => two_to(d_of(&self.t, last.filter)),
+            Some(Slip::WalkBaseByLast) => two_to(d_of(&self.t, 32)),
+            _ => two_to(d_of(&self.t, filter)),
+        };
+        // Only a slip takes more than lies before.
+        let base = last.base.saturating_sub(size);
+        Stage { length, p: less(last.p as u64, lost as u64) as u32, start, stride, filter, base }
     }
 
     /// What the last prefix loses with one bit: the bit, if it was set.
@@ -936,6 +1100,12 @@ impl Table<'_> {
 
     /// Whether no counter of a stage is zero.
     fn claimed_at(&self, stage: Stage) -> bool {
-        self.all_count(stage.filter, grown(&self.t, stage.start, stage.stride, self.slip))
+        let by = match self.slip {
+            Some(Slip::WalkSizeStays) => 32,
+            Some(Slip::WalkSizeLate) => (stage.filter + 1).min(32),
+            _ => stage.filter,
+        };
+        let steps = grown(&self.t, by, stage.start, stage.stride, self.slip);
+        self.all_count(steps.into_iter().map(|j| self.byte(stage.base.saturating_add(j as u64))))
     }
 }

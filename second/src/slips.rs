@@ -37,10 +37,38 @@ slips! {
     STo7: "S of 8 is refused",
     STo9: "S of 9 passes",
     ZeroMultiplierBad: "a multiplier of zero is refused as 1",
+    // The list of filter sizes: which of its values are asked.
+    DFirstUnasked: "the D of length 1 is not asked",
+    DLastUnasked: "the D of length 32 is not asked",
+    DFirstOnly: "only the D of length 1 is asked",
+    DLastOnly: "only the D of length 32 is asked",
+    DLargestOnly: "only the largest D is asked, so that any below it pass",
+    DSmallestOnly: "only the smallest D is asked, so that any above it pass",
+    DOneEnough: "one D in its range is enough",
+    DZeroPasses: "a D of 0 passes, with one counter",
+    // The list of filter sizes: how many values it has, and which is whose.
+    DShortFilled: "a list of 31 values passes, as if a 4 followed",
+    DShortLastAgain: "a list of 31 values passes, with the last one for length 32 too",
+    DLongCut: "a list of 33 values passes, and its last is ignored",
+    DEmptyPasses: "an empty list passes, as 32 times 4",
+    // Differs only for a list of one value.
+    DOneForAll: "a list of one value passes, for all lengths",
+    DCountUnasked: "a list of any count passes: it is cut after 32 values, or filled with 4",
+    DCountGives2: "a list of another count is refused as 2",
+    DCountGives18: "a list of another count is refused as 18",
+    DTurned: "the first value of the list is that of length 32, and so down",
+    DOneAhead: "each length has the value of the next one, length 32 its own",
     // Sizes of what is lent.
     CountersLonger: "more counters than asked pass",
     CountersShorter: "fewer counters than asked pass",
-    CountersRowMore: "counters are asked for 33 lengths",
+    CountersRowMore: "counters are asked for 33 lengths, the last D counting twice",
+    CountersRowFewer: "counters are asked for lengths 1 to 31 only",
+    CountersFirstLeft: "counters are asked for lengths 2 to 32 only",
+    CountersByFirst: "counters are asked for 32 filters of the first size",
+    CountersByLast: "counters are asked for 32 filters of the last size",
+    CountersByLargest: "counters are asked for 32 filters of the largest size",
+    // Differs only where every D is 11.
+    CountersSum16Bits: "the number of counters is kept in 16 bits",
     SlotsLonger: "more slot memory than asked passes",
     SlotsShorter: "less slot memory than asked passes",
     SlotsNoDefault: "no room is asked for the default's mark",
@@ -66,6 +94,12 @@ slips! {
     PositionLowBits: "the low bits of g are kept",
     PositionBitFewer: "one bit too few of g is kept",
     PositionRoundedUp: "the position is rounded up",
+    PositionByFirst: "positions are taken by the D of length 1",
+    PositionByLast: "positions are taken by the D of length 32",
+    PositionByNext: "positions are taken by the D of the next longer length, as far as there is one",
+    PositionByBefore: "positions are taken by the D of the next shorter length, as far as there is one",
+    PositionByLargest: "positions are taken by the largest D",
+    PositionBySmallest: "positions are taken by the smallest D",
     // Buckets.
     BucketByA: "the bucket is taken with A",
     BucketUnmixed: "the bucket is the prefix's own top bits",
@@ -76,6 +110,14 @@ slips! {
     // Where things lie.
     CounterRowL: "counters begin one length later",
     CounterColumns: "counters of one position lie together, not of one length",
+    FilterRowFewer: "each filter from length 2 on begins where the one before it does",
+    FilterSumsAbove: "before a filter lie as many counters as lengths 2 to its own have",
+    FilterSumsBelow: "each filter has the room of the next shorter length, the first its own",
+    FilterRowsOwn: "a filter begins as if all before it had its own size",
+    FilterRowsFirst: "a filter begins as if all before it had the first one's size",
+    FilterRowsLargest: "a filter begins as if all before it had the largest size",
+    FiltersTurned: "the filters lie from length 32 down to 1",
+    FilterSumsD: "a filter begins at the sum of the D before it, not of their powers",
     SlotRowL: "slots begin one length later",
     SlotByBucket: "slots of one bucket number lie together, not of one length",
     MarkBeforePrefix: "the mark lies before the prefix",
@@ -101,6 +143,7 @@ slips! {
     // Clear.
     ClearKeepsCounters: "a clear leaves the counters",
     ClearKeepsLastCounter: "a clear leaves the last counter",
+    ClearByFirst: "a clear reaches only as far as 32 filters of the first size",
     ClearKeepsSlots: "a clear leaves the slots",
     ClearMarksOnly: "a clear leaves the prefixes",
     ClearKeepsDefault: "a clear leaves the default",
@@ -135,6 +178,7 @@ slips! {
     WithdrawZeroesCounters: "a withdrawal writes zero to its counters",
     WithdrawCountersLeft: "a withdrawal leaves the counters",
     WithdrawDoubledOnce: "a withdrawal counts a doubled position once",
+    WithdrawByFirst: "a withdrawal lowers the positions that the D of length 1 gives",
     WithdrawSticksAt15: "a withdrawal leaves a counter at 15",
     WithdrawStopsAtZero: "a withdrawal leaves a counter at 0 and is not refused",
     // Change.
@@ -194,6 +238,10 @@ slips! {
     WalkFilterBelow: "the walk asks the filter one length down, as far as there is one",
     WalkFilterIfSet: "the walk goes on to the next filter only if the bit was set",
     WalkSearchLast: "buckets are searched for the prefix at which the walk ended",
+    WalkSizeStays: "the walk takes positions by the D of length 32 all the way down",
+    WalkSizeLate: "the walk takes positions by the D of the length before",
+    WalkBaseByAbove: "each step of the walk goes back by the size of the filter that it leaves",
+    WalkBaseByLast: "each step of the walk goes back by the size of the filter of length 32",
     // The one 64-bit number.
     RefusalAt40: "the refusal stands at 2^40",
     FoundAt32: "found stands at 2^32",
@@ -202,6 +250,8 @@ slips! {
     RefusedWithOne: "a refused question has a one in its low number",
     // Order of the refusals.
     SizeBeforeSettings: "2 is asked before 1",
+    SizeBeforeList: "2 is asked before 1 for the list of D, after 1 for the other settings",
+    SizeBeforeCount: "2 is asked before 1 for the count of the list, after 1 for all else",
     LengthBeforeSize: "3 is asked before 2",
     BitBeforeLength: "4 is asked before 3",
     HopBeforeBit: "5 is asked before 4",
@@ -249,8 +299,10 @@ slips! {
     RoomFirstOnly: "only the first counter is asked for room",
     RoomEverywhere: "counters of the length that the prefix does not hit are asked too",
     RoomSeesRaised: "9 is asked after the first counter was raised",
+    RoomByFirst: "9 is asked at the positions that the D of length 1 gives",
     HitsOne: "a counter of one is enough for any hits",
     HitsOneMore: "a counter must pass its hits",
+    HitsByFirst: "10 is asked at the positions that the D of length 1 gives",
     // Refused calls that had begun to write.
     FullLate: "8 leaves the first counter raised",
     RoomLate: "9 leaves the first counter raised",
@@ -303,6 +355,11 @@ slips! {
     PaperCountedOnce: "paper: a route counts one, not K",
     PaperCountedDistinct: "paper: a doubled position counts once",
     PaperCountedAll: "paper: routes of every length are counted",
+    PaperPositionsFirst: "paper: all positions are taken by the D of length 1",
+    PaperPositionsLast: "paper: all positions are taken by the D of length 32",
+    PaperPositionsNext: "paper: positions are taken by the D of the next longer length",
+    PaperPositionsLargest: "paper: all positions are taken by the largest D",
+    PaperAskedFirst: "paper: an address has positions by the D of length 1, a route by its own",
     // Lists of addresses: which refusal, and when.
     ListBeforeSettings: "list: 18 is asked before 1 and 2",
     ListBeforeSize: "list: 18 is asked before 2",
@@ -615,6 +672,10 @@ pub fn walks(slip: Option<Slip>) -> bool {
                 | Slip::WalkFilterBelow
                 | Slip::WalkFilterIfSet
                 | Slip::WalkSearchLast
+                | Slip::WalkSizeStays
+                | Slip::WalkSizeLate
+                | Slip::WalkBaseByAbove
+                | Slip::WalkBaseByLast
         )
     )
 }
