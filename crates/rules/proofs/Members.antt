@@ -1,12 +1,13 @@
 -- The tools of the rules as facts about what stands in a list: each law is one induction over the list.
-use Prim.Native.Nat.{ℕ, _+_, _≤_}
+use Prim.Native.Nat.{ℕ, zero, suc, _+_, _≤_, _<_}
 use mathlib.Core.Path.{_≡_, refl, sym, ap, _∙_}
-use mathlib.Core.Bool.{Bool, true, false, cond, not, _&&_, _||_, true≢false, false≢true}
+use mathlib.Core.Bool.{Bool, true, false, cond, not, _&&_, _||_, true≢false, false≢true, and-true, and-assoc}
 use mathlib.Core.List.{List, [], _∷_, map}
 use mathlib.Core.Logic.{_⊎_, inl, inr}
-use native.Mathlib.Nat.{not-suc-le-zero, zero-add}
+use native.Mathlib.Nat.{not-suc-le-zero, le-of-suc-le-suc, zero-add}
 use native.Mathlib.Omega.{arith}
 use lib.Dec.{leb, ltb, eqb}
+use lib.ListN.{length, getD, take}
 use borrow.Author.Tests.{leb-true, eqb-true, eqb-false, lt-ltb, eq-eqb, ne-eqb, not-true, not-false}
 use Rattle.rules.specs.Tools.{within, all, any, count}
 
@@ -71,6 +72,20 @@ all-true test (y ∷ ys) h x m = go (both (test y) (all test ys) h) (among-cases
     go : (test y ≡ true) × (all test ys ≡ true) → (x ≡ y) ⊎ Among x ys → (all test ys ≡ true → Among x ys → test x ≡ true) → test x ≡ true
     go h (inl e) later = ap test e ∙ h .0
     go h (inr m) later = later (h .1) m
+
+-- and at each place of it
+pub all-at : (test : ℕ → Bool) (xs : List ℕ) (i : ℕ) → all test xs ≡ true → i < length xs → test (getD xs i 0) ≡ true
+unfolding all
+all-at test [] i h less = absurd (not-suc-le-zero less)
+all-at test (x ∷ xs) zero h less = both (test x) (all test xs) h .0
+all-at test (x ∷ xs) (suc i) h less = all-at test xs i (both (test x) (all test xs) h .1) (le-of-suc-le-suc less)
+
+-- and so at one more of them
+pub all-more : (test : ℕ → Bool) (xs : List ℕ) (i : ℕ) → i < length xs → all test (take (suc i) xs) ≡ all test (take i xs) && test (getD xs i 0)
+unfolding all
+all-more test [] i less = absurd (not-suc-le-zero less)
+all-more test (x ∷ xs) zero less = and-true (test x)
+all-more test (x ∷ xs) (suc i) less = ap (λ (b : Bool). test x && b) (all-more test xs i (le-of-suc-le-suc less)) ∙ sym (and-assoc (test x) (all test (take i xs)) (test (getD xs i 0)))
 
 pub all-made : (test : ℕ → Bool) (xs : List ℕ) → ((x : ℕ) → Among x xs → test x ≡ true) → all test xs ≡ true
 unfolding all

@@ -8,15 +8,15 @@ use lib.ListN.{getD, length, replicate, set}
 use Rattle.rules.specs.declared.Settings.{Settings}
 use Rattle.rules.specs.declared.Answer.{Answer}
 use Rattle.rules.specs.Tools.{within, all, any, count, those, lowest}
-use Rattle.rules.specs.Table.{in-range, wrap, prefix, steps, filter-bits, positions, bucket, Memory, counters-size, filter-start, counter-place, counter-places, slots-size, slot-number, prefix-word, mark-word, default-word, occupied, mark-of, hop-of, mark-at, prefix-at, default-mark, holds, free, held, vacant, is-some, stored, refuse, sized, loose, full, hits, passes-15, runs-short, from-1, needs-slot, memory-refusal, route-refusal, add-refusal, withdraw-refusal, change-refusal, Update, update, zeroed, step-each, with-slot, with-default, with-found, added, withdrawn, changed, clear, add, withdraw, change, claims, bits-where, vector-of, match-vector, down-from, bit-set, set-bits, search, route-answer, default-answer, place-answer, refused, answer-of, lookup, one-if, answer-words, list-words, Listed, listed, fourfold, list-refusal, lookup-list, whole-words, words, answer-number, vector-number, c-lookup, c-match-vector, bytes-of, c-list-refusal, c-lookup-list}
+use Rattle.rules.specs.Table.{list-in-range, in-range, wrap, prefix, steps, filter-bits, positions, bucket, Memory, filters-size, counters-size, filter-start, counter-place, counter-places, slots-size, slot-number, prefix-word, mark-word, default-word, occupied, mark-of, hop-of, mark-at, prefix-at, default-mark, holds, free, held, vacant, is-some, stored, refuse, sized, loose, full, hits, passes-15, runs-short, from-1, needs-slot, memory-refusal, route-refusal, add-refusal, withdraw-refusal, change-refusal, Update, update, zeroed, step-each, with-slot, with-default, with-found, added, withdrawn, changed, clear, add, withdraw, change, claims, bits-where, vector-of, match-vector, down-from, bit-set, set-bits, search, route-answer, default-answer, place-answer, refused, answer-of, lookup, one-if, answer-words, list-words, Listed, listed, fourfold, list-refusal, lookup-list, whole-words, words, answer-number, vector-number, c-lookup, c-match-vector, bytes-of, c-list-refusal, c-lookup-list}
 
 -- an address or a prefix by its four octets
 abbrev pub ip : (a b c d : ℕ) → ℕ
 ip a b c d = a * 2 ^ 24 + b * 2 ^ 16 + c * 2 ^ 8 + d
 
--- K, D, E, S, A, B, C
+-- K, D, E, S, A, B, C, with the same D at every length
 abbrev pub settings : (k d e s a b c : ℕ) → Settings
-settings k d e s a b c = record { k = k; d = d; e = e; s = s; a = a; b = b; c = c }
+settings k d e s a b c = record { k = k; d = replicate 32 d; e = e; s = s; a = a; b = b; c = c }
 
 abbrev pub T : Settings
 T = settings 2 4 1 2 1 2 1
@@ -106,6 +106,40 @@ twice = record { counters = empty T .counters; slots = set (set (ten .slots) 58 
 abbrev lowest-again : Update
 lowest-again = add T twice (ip 10 0 0 0) 8 8
 
+-- so many sevens
+abbrev pub sevens : (n : ℕ) → List ℕ
+sevens n = replicate n 7
+
+-- U's multipliers with filters of these sizes: K 3, E 1, S 2
+abbrev filtered : (d : List ℕ) → Settings
+filtered d = record { k = 3; d = d; e = 1; s = 2; a = 2654435761; b = 2246822519; c = 3266489917 }
+
+-- D is 5 at lengths 1 and 16, 7 at 24, 6 at 32, and 4 at the rest
+abbrev X : Settings
+X = filtered ((5 ∷ replicate 14 4) ++ (5 ∷ replicate 7 4) ++ (7 ∷ replicate 7 4) ++ 6 ∷ [])
+
+-- routes of lengths 24 and 8, of which the first is alone before
+abbrev branch : Settings → Update
+branch t = add t (empty t) (ip 10 1 2 0) 24 5
+
+abbrev branch-ten : Settings → Memory
+branch-ten t = add t (branch t .memory) (ip 10 0 0 0) 8 7 .memory
+
+-- and of lengths 16, 1 and 32; and that of length 24 withdrawn
+abbrev five-lengths : Memory
+five-lengths = add X (add X (add X (branch-ten X) (ip 10 1 0 0) 16 9 .memory) (ip 128 0 0 0) 1 2 .memory) (ip 10 1 2 3) 32 6 .memory
+
+abbrev branch-gone : Memory
+branch-gone = withdraw X five-lengths (ip 10 1 2 0) 24 .memory
+
+-- what a clear gives back with filters of these sizes, over so many counters
+abbrev clear-number : (d : List ℕ) (counters : ℕ) → ℕ
+clear-number d counters = clear (filtered d) (record { counters = sevens counters; slots = sevens 257 }) .refusal
+
+-- the counters at these places
+abbrev bytes-at : Memory → (places : List ℕ) → List ℕ
+bytes-at m = map (λ i. getD (m .counters) i 0)
+
 -- an update's number, and all that it leaves, the counters first
 abbrev written : Update → List ℕ
 written u = u .refusal ∷ u .memory .counters ++ u .memory .slots
@@ -133,10 +167,6 @@ none-after probes = 0 ∷ 0 ∷ 0 ∷ 0 ∷ probes ∷ []
 -- the addresses of P4 to P7, as one list
 abbrev asked : List ℕ
 asked = ip 8 1 2 3 ∷ ip 10 1 2 3 ∷ ip 10 2 2 3 ∷ ip 11 0 0 1 ∷ []
-
--- so many results before the call
-abbrev pub sevens : (n : ℕ) → List ℕ
-sevens n = replicate n 7
 
 -- what a list of addresses is given back, and its results
 abbrev pub told : Listed → List ℕ
@@ -314,6 +344,43 @@ downwards =
     ∷ case (match-vector T both-ends (ip 127 255 255 255) .vector ∷ match-vector T both-ends (ip 128 0 0 0) .vector ∷ []) (1 ∷ 0 ∷ [])
     ∷ []
 
+-- filters of unequal size
+unequal : List Case
+unequal =
+    -- W10: the size of X's counters, and where the filters of lengths 1, 2, 16, 17, 24, 25 and 32 begin
+    case (counters-size X ∷ map (filter-start X) (1 ∷ 2 ∷ 16 ∷ 17 ∷ 24 ∷ 25 ∷ 32 ∷ []))
+    (704 ∷ 0 ∷ 32 ∷ 256 ∷ 288 ∷ 400 ∷ 528 ∷ 640 ∷ [])
+    -- 10.1.2.0 has the top 7, 4 and 6 bits of the same three numbers for its positions at lengths 24, 23 and 32
+    ∷ case (positions X 24 (ip 10 1 2 0)) (105 ∷ 13 ∷ 49 ∷ [])
+    ∷ case (positions X 23 (ip 10 1 2 0)) (13 ∷ 1 ∷ 6 ∷ [])
+    ∷ case (positions X 32 (ip 10 1 2 0)) (52 ∷ 6 ∷ 24 ∷ [])
+    -- W11: 10.1.2/24 added to a table that holds nothing: three counters, and the words of slot 0 of bucket 0
+    ∷ case (written (branch X)) (0 ∷ set (set (set (replicate 704 0) 413 1) 449 1) 505 1 ++ set (set (replicate 257 0) 184 (ip 10 1 2 0)) 185 6)
+    -- 10.3.187/24 has positions 110, 15 and 48: at length 24 it is not claimed, and with D 4 everywhere it would be
+    ∷ case (positions X 24 (ip 10 3 187 0)) (110 ∷ 15 ∷ 48 ∷ [])
+    ∷ case (figures (lookup X (branch-ten X) (ip 10 3 187 1))) (finds 7 8 1)
+    ∷ case (figures (lookup (filtered (replicate 32 4)) (branch-ten (filtered (replicate 32 4))) (ip 10 3 187 1))) (finds 7 8 2)
+    -- W12: the first filter and the last: 128/1 lands twice on byte 16, and 10.1.2.3/32 on bytes 683, 673 and 664
+    ∷ case (bytes-at five-lengths (0 ∷ 16 ∷ 264 ∷ 268 ∷ 282 ∷ 664 ∷ 673 ∷ 683 ∷ [])) (1 ∷ 2 ∷ 1 ∷ 1 ∷ 1 ∷ 1 ∷ 1 ∷ 1 ∷ [])
+    -- claimed at 32, 24, 16, 8 and 1
+    ∷ case (match-vector X five-lengths (ip 10 1 2 3) .vector ∷ []) (2155905153 ∷ [])
+    ∷ case (figures (lookup X five-lengths (ip 10 1 2 3)) ++ figures (lookup X five-lengths (ip 192 0 0 1))) (finds 6 32 1 ++ finds 2 1 1)
+    -- 10.1.2/24 withdrawn: its three counters are zero again, and 10.1.2.9 goes by 10.1/16
+    ∷ case (figures (lookup X five-lengths (ip 10 1 2 9)) ++ figures (lookup X branch-gone (ip 10 1 2 9))) (finds 5 24 1 ++ finds 9 16 1)
+    ∷ case (bytes-at branch-gone (413 ∷ 449 ∷ 505 ∷ 664 ∷ [])) (0 ∷ 0 ∷ 0 ∷ 1 ∷ [])
+    -- W13: 31 values, 33 and none get 1, over as many counters as they ask
+    ∷ case (clear-number (replicate 31 4) 496 ∷ clear-number (replicate 33 4) 528 ∷ clear-number [] 0 ∷ []) (1 ∷ 1 ∷ 1 ∷ [])
+    -- so do 3 and 12 at the first length, at length 24 and at the last
+    ∷ case (clear-number (3 ∷ replicate 31 4) 504 ∷ clear-number (12 ∷ replicate 31 4) 4592 ∷ []) (1 ∷ 1 ∷ [])
+    ∷ case (clear-number (replicate 23 4 ++ 3 ∷ replicate 8 4) 504 ∷ clear-number (replicate 23 4 ++ 12 ∷ replicate 8 4) 4592 ∷ []) (1 ∷ 1 ∷ [])
+    ∷ case (clear-number (replicate 31 4 ++ 3 ∷ []) 504 ∷ clear-number (replicate 31 4 ++ 12 ∷ []) 4592 ∷ []) (1 ∷ 1 ∷ [])
+    -- 4 and 11 are in the range, and 2 is given where the counters are not the sum of the powers, as 512 are not here
+    ∷ case (clear-number (11 ∷ replicate 31 4) 2544 ∷ clear-number (replicate 31 4 ++ 11 ∷ []) 2544 ∷ []) (0 ∷ 0 ∷ [])
+    ∷ case (clear-number (11 ∷ replicate 31 4) 2543 ∷ clear-number (replicate 31 4 ++ 11 ∷ []) 2545 ∷ clear-number (replicate 31 4 ++ 5 ∷ []) 512 ∷ []) (2 ∷ 2 ∷ 2 ∷ [])
+    -- from C too: 1·2^48
+    ∷ case (c-lookup (filtered (replicate 31 4)) (sevens 496) (sevens 1028) 0 ∷ c-match-vector (filtered (replicate 33 4)) (sevens 528) (sevens 1028) 0 ∷ []) (281474976710656 ∷ 281474976710656 ∷ [])
+    ∷ []
+
 -- two lists of numbers are the same
 unfoldable pub same : List ℕ → List ℕ → Bool
 same [] [] = true
@@ -328,9 +395,9 @@ come-out (c ∷ cs) = same (c .gives) (c .says) && come-out cs
 
 -- to unfold this is to unfold all that the calls compute with
 unfoldable pub computing : ℕ
-unfolding within all any count those lowest in-range wrap prefix steps filter-bits positions bucket counters-size filter-start counter-place counter-places slots-size slot-number prefix-word mark-word default-word occupied mark-of hop-of mark-at prefix-at default-mark holds free held vacant is-some stored refuse sized loose full hits passes-15 runs-short from-1 needs-slot memory-refusal route-refusal add-refusal withdraw-refusal change-refusal update zeroed step-each with-slot with-default with-found added withdrawn changed clear add withdraw change claims bits-where vector-of match-vector down-from bit-set set-bits search route-answer default-answer place-answer refused answer-of lookup one-if answer-words list-words listed fourfold list-refusal lookup-list whole-words words answer-number vector-number c-lookup c-match-vector bytes-of c-list-refusal c-lookup-list
+unfolding within all any count those lowest list-in-range in-range wrap prefix steps filter-bits positions bucket filters-size counters-size filter-start counter-place counter-places slots-size slot-number prefix-word mark-word default-word occupied mark-of hop-of mark-at prefix-at default-mark holds free held vacant is-some stored refuse sized loose full hits passes-15 runs-short from-1 needs-slot memory-refusal route-refusal add-refusal withdraw-refusal change-refusal update zeroed step-each with-slot with-default with-found added withdrawn changed clear add withdraw change claims bits-where vector-of match-vector down-from bit-set set-bits search route-answer default-answer place-answer refused answer-of lookup one-if answer-words list-words listed fourfold list-refusal lookup-list whole-words words answer-number vector-number c-lookup c-match-vector bytes-of c-list-refusal c-lookup-list
 computing = 0
 
-all-come-out : come-out (worked ++ refusals ++ further ++ lists ++ replaced ++ downwards) ≡ true
-unfolding worked refusals further lists replaced downwards same come-out computing
+all-come-out : come-out (worked ++ refusals ++ further ++ lists ++ replaced ++ downwards ++ unequal) ≡ true
+unfolding worked refusals further lists replaced downwards unequal same come-out computing
 all-come-out = refl

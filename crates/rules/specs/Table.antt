@@ -4,7 +4,7 @@ use Prim.Native.Nat.{ℕ, zero, suc, _+_, _-_, _*_, _/_, _%_, _^_}
 use mathlib.Core.Bool.{Bool, true, false, cond, not, _&&_}
 use mathlib.Core.List.{List, [], _∷_, _++_, map}
 use mathlib.Core.Option.{Option, some, none}
-use lib.ListN.{length, getD, set, replicate}
+use lib.ListN.{length, getD, set, take, replicate}
 use lib.Dec.{ltb, eqb}
 use Rattle.rules.specs.Tools.{within, all, any, count, those, lowest}
 use Rattle.rules.specs.declared.Settings.{Settings}
@@ -15,9 +15,13 @@ use Rattle.rules.specs.declared.Vector.{Vector}
 
 -- ---- Settings
 
--- K is 1 to 8, D 4 to 11, E 0 to 8 and S 1 to 8; A, B and C may be any number
+-- D is a list of 32 numbers, one for each length, and each is 4 to 11
+unfoldable pub list-in-range : (d : List ℕ) → Bool
+list-in-range d = eqb (length d) 32 && all (within 4 11) d
+
+-- K is 1 to 8, D is as above, E 0 to 8 and S 1 to 8; A, B and C may be any number
 unfoldable pub in-range : Settings → Bool
-in-range t = within 1 8 (t .k) && (within 4 11 (t .d) && (within 0 8 (t .e) && within 1 8 (t .s)))
+in-range t = within 1 8 (t .k) && (list-in-range (t .d) && (within 0 8 (t .e) && within 1 8 (t .s)))
 
 -- what is left of a number of 32 bits when it has passed 2^32
 unfoldable pub wrap : ℕ → ℕ
@@ -32,9 +36,9 @@ unfoldable pub steps : (many g growth : ℕ) → List ℕ
 steps zero g growth = []
 steps (suc many) g growth = g ∷ steps many (wrap (g + growth)) growth
 
--- how many bits number a counter within the filter of length L: D, at every length
+-- how many bits number a counter within the filter of length L: that length's own D
 unfoldable pub filter-bits : Settings → (L : ℕ) → ℕ
-filter-bits t L = t .d
+filter-bits t L = getD (t .d) (L - 1) 0
 
 -- the K filter positions of p at length L: the top bits of A·p, and of it grown by B·p again and again
 unfoldable pub positions : Settings → (L p : ℕ) → List ℕ
@@ -55,13 +59,18 @@ pub record Memory : Type 0 where
 abbrev pub lent : (counters slots : List ℕ) → Memory
 lent counters slots = record { counters = counters; slots = slots }
 
--- how many counters there are: 2^D for each of 32 lengths
-unfoldable pub counters-size : Settings → ℕ
-counters-size t = 32 * 2 ^ t .d
+-- how many counters the filters of a list have together: 2^D for each D
+unfoldable pub filters-size : (d : List ℕ) → ℕ
+filters-size [] = 0
+filters-size (D ∷ d) = 2 ^ D + filters-size d
 
--- where the filter of length L begins among the counters
+-- how many counters there are
+unfoldable pub counters-size : Settings → ℕ
+counters-size t = filters-size (t .d)
+
+-- where the filter of length L begins among the counters: after those of the shorter lengths
 unfoldable pub filter-start : Settings → (L : ℕ) → ℕ
-filter-start t L = (L - 1) * 2 ^ t .d
+filter-start t L = filters-size (take (L - 1) (t .d))
 
 -- where the counter of position j of length L lies
 unfoldable pub counter-place : Settings → (L j : ℕ) → ℕ

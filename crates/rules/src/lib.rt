@@ -1,12 +1,12 @@
 // The rules of the gateway table, as definitions that are computed (specs/) and laws about them
 // (proofs/). There is no code here: only the types that the definitions and every call share.
 
-// What a table is built with. Any seven numbers can be given; those out of range are refused.
+// What a table is built with. Any numbers can be given; those out of range are refused.
 pub struct Settings {
     // K, hash steps.
     pub k: u32,
-    // D: a filter has 2^D counters.
-    pub d: u32,
+    // D of each length, that of length 1 first: the length's filter has 2^D counters.
+    pub d: [u8; 32],
     // E: a length has 2^E buckets.
     pub e: u32,
     // S, slots in a bucket.
