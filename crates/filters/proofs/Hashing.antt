@@ -32,6 +32,11 @@ module _ (t : Settings) (L growth : ℕ) where
       let many : t .k - step ≡ suc (t .k - (step + 1)) = omega arith in
       rw (many, at .there, next)
 
+  -- so the first place is that of the first number, and the rest are left after it
+  pub first-left : (p : ℕ) {g place next : ℕ} → growth ≡ wrap (t .b * p) → g ≡ wrap (t .a * p) → 0 < t .k → Placed t L g place
+      → next ≡ (g + growth) % 2 ^ 32 → counter-places t L p ≡ place ∷ places-left t L growth 1 next
+  first-left p by first some at next = all-left p by first ∙ one-left 0 some at next
+
   -- after the last step none is left
   pub none-left : (step g : ℕ) → t .k ≤ step → places-left t L growth step g ≡ []
   unfolding steps places-left

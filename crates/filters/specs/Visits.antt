@@ -7,9 +7,14 @@ use lib.Dec.{ltb}
 use lib.ListN.{length, getD, take}
 use Rattle.rules.specs.declared.Settings.{Settings}
 use Rattle.rules.specs.Tools.{any, count}
-use Rattle.rules.specs.Table.{filter-bits, counter-place, counter-places, counters-size}
+use Rattle.rules.specs.Table.{filter-bits, filter-start, counter-place, counter-places, counters-size}
 use Rattle.filters.specs.declared.Step.{Step}
 use Rattle.filters.specs.declared.Step.the-variants.{Raise, Lower}
+
+-- the filter of length L begins there, and so many bits number its counters
+pub record Filter (t : Settings) (L start bits : ℕ) : Type 0 where
+  pub begins : start ≡ filter-start t L
+  pub its-bits : bits ≡ filter-bits t L
 
 -- a place is that of the counter that g numbers, and is one of the counters'
 pub record Placed (t : Settings) (L g place : ℕ) : Type 0 where

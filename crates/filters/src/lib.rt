@@ -2,9 +2,9 @@
 ghost use mathlib.Core.Path.{_≡_};
 ghost use mathlib.Core.Bool.{false};
 ghost use Prim.Native.Nat.{_+_, _*_, _%_, _^_, _≤_};
-ghost use Rattle.rules.specs.Table.{wrap, filter-bits, filter-start, claims, step-each};
+ghost use Rattle.rules.specs.Table.{wrap, filter-start, claims, step-each};
 ghost use Rattle.rules.specs.Ready.{Ready, Counters};
-ghost use Rattle.filters.specs.Visits.{Placed, PlacesOf, Whole, Inside, Hits, k-places, cannot, stepped, some-cannot};
+ghost use Rattle.filters.specs.Visits.{Filter, Placed, PlacesOf, Whole, Inside, Hits, k-places, cannot, stepped, some-cannot};
 use hashes::product;
 use hashes::top_bits;
 use rules::Settings;
@@ -18,29 +18,34 @@ pub enum Step {
     Lower,
 }
 
-// Where the filter of a length begins among the counters.
+// How many counters a filter has that so many bits number.
+pub fn filter_size(bits: u32) -> usize
+    requires { ⌜ bits ≤ 11 ⌝ }
+    ensures { λ r. ⌜ r ≡ 2 ^ bits ⌝ }
+{
+    1 << (bits as usize)
+}
+
+// Where the filter of a length begins among the counters: after those of the shorter lengths.
 fn start_of(settings: Settings, length: u32) -> usize
     requires { ⌜ Ready settings length ⌝ }
     ensures { λ r. ⌜ r ≡ filter-start settings length ⌝ }
 {
-    ((length - 1) as usize) << (settings.d as usize)
+    let mut start: u32 = 0;
+    for i in 0..(length - 1) as usize {
+        start += 1 << (settings.d[i] as u32);
+    }
+    start as usize
 }
 
-// How many counters the filter of a length has.
-pub fn filter_size(settings: Settings, length: u32) -> usize
+// Where the counter that g numbers lies, in the filter of a length that begins at start and whose counters
+// so many bits number.
+fn place_of(settings: Settings, length: u32, start: usize, bits: u32, g: u32) -> usize
     requires { ⌜ Ready settings length ⌝ }
-    ensures { λ r. ⌜ r ≡ 2 ^ filter-bits settings length ⌝ }
-{
-    1 << (settings.d as usize)
-}
-
-// Where the counter that g numbers lies, in the filter of a length that begins at start.
-fn place_of(settings: Settings, length: u32, start: usize, g: u32) -> usize
-    requires { ⌜ Ready settings length ⌝ }
-    requires { ⌜ start ≡ filter-start settings length ⌝ }
+    requires { ⌜ Filter settings length start bits ⌝ }
     ensures { λ r. ⌜ Placed settings length g r ⌝ }
 {
-    start + top_bits(g, settings.d) as usize
+    start + top_bits(g, bits) as usize
 }
 
 // What g grows by at each step of a prefix.
@@ -57,18 +62,31 @@ fn grow(g: u32, growth: u32) -> u32
     std::num::wrapping_add_u32(g, growth)
 }
 
-// Whether the filter of a length, which begins at start, claims a prefix: all its K counters are nonzero.
-pub fn claims_prefix(settings: Settings, counters: &[u8], p: u32, length: u32, start: usize) -> bool
+// Whether a filter claims a prefix of its length: all its K counters are nonzero. The first of them is zero
+// more often than not, and then the rest is not even hashed.
+pub fn claims_prefix(
+    settings: Settings,
+    counters: &[u8],
+    p: u32,
+    length: u32,
+    start: usize,
+    bits: u32,
+) -> bool
     requires { ⌜ Ready settings length ⌝ }
     requires { ⌜ Counters settings (now counters) ⌝ }
-    requires { ⌜ start ≡ filter-start settings length ⌝ }
+    requires { ⌜ Filter settings length start bits ⌝ }
     ensures { λ r. ⌜ r ≡ claims settings (now (counters .entry)) length p ⌝ }
 {
+    let once = product(settings.a, p);
+    let first = place_of(settings, length, start, bits, once);
+    if counters[first] == 0 {
+        return false;
+    }
     let growth = growth_of(settings, p);
-    let mut g = product(settings.a, p);
+    let mut g = grow(once, growth);
     let mut claimed = true;
-    for _ in 0..settings.k {
-        let place = place_of(settings, length, start, g);
+    for _ in 1..settings.k {
+        let place = place_of(settings, length, start, bits, g);
         if counters[place] == 0 {
             claimed = false;
             break;
@@ -84,11 +102,12 @@ pub fn places_of(settings: Settings, p: u32, length: u32) -> Places
     ensures { λ r. ⌜ PlacesOf settings length p r ⌝ }
 {
     let start = start_of(settings, length);
+    let bits = settings.d[(length - 1) as usize] as u32;
     let growth = growth_of(settings, p);
     let mut g = product(settings.a, p);
     let mut places = [0; 8];
     for step in 0..settings.k as usize {
-        places[step] = place_of(settings, length, start, g);
+        places[step] = place_of(settings, length, start, bits, g);
         g = grow(g, growth);
     }
     places

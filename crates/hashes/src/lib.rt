@@ -11,12 +11,12 @@ pub fn product(a: u32, b: u32) -> u32
     ((a as u64) * (b as u64) % 0x1_0000_0000) as u32
 }
 
-// The top bits of g, so many of them; none of them is 0. Over 64 bits, since the shift is then by 32.
+// The top bits of g, so many of them; none of them is 0. Over 64 bits they are shifted out of the low 32.
 pub fn top_bits(g: u32, bits: u32) -> u32
     requires { ⌜ bits ≤ 32 ⌝ }
     ensures { λ r. ⌜ r ≡ g / 2 ^ (32 - bits) ⌝ }
 {
-    ((g as u64) >> (32 - bits)) as u32
+    ((g as u64) << bits >> 32) as u32
 }
 
 // The bucket of a prefix p, at any length.

@@ -85,12 +85,14 @@ fn put_bytes(results: &mut [u8], at: usize, answer: Answer)
 // Answers each address in its place of the results.
 pub fn list_in_words(
     settings: Settings,
+    d: &[u8],
     counters: &[u8],
     slots: &[u32],
     addresses: &[u32],
     results: &mut [u32],
 )
     requires { ⌜ in-range settings ≡ true ⌝ }
+    requires { ⌜ now d ≡ settings .d ⌝ }
     requires { ⌜ Counters settings (now counters) ⌝ }
     requires { ⌜ Slots settings (now slots) ⌝ }
     requires { ⌜ length (now results) ≡ 4 * length (now addresses) ⌝ }
@@ -99,7 +101,7 @@ pub fn list_in_words(
     let mut i = 0;
     while i < addresses.len() {
         let address = addresses[i];
-        let claimed = vector_of(settings, counters, address);
+        let claimed = vector_of(settings, d, counters, address);
         let answer = answer_in_words(settings, slots, address, claimed);
         put_words(results, 4 * i, answer);
         i += 1;
@@ -109,12 +111,14 @@ pub fn list_in_words(
 // The same where slots, addresses and results are lent as bytes.
 pub fn list_in_bytes(
     settings: Settings,
+    d: &[u8],
     counters: &[u8],
     slots: &[u8],
     addresses: &[u8],
     results: &mut [u8],
 )
     requires { ⌜ in-range settings ≡ true ⌝ }
+    requires { ⌜ now d ≡ settings .d ⌝ }
     requires { ⌜ Counters settings (now counters) ⌝ }
     requires { ⌜ Slots settings (words (now slots)) ⌝ }
     requires { ⌜ length (now addresses) % 4 ≡ 0 ⌝ }
@@ -125,7 +129,7 @@ pub fn list_in_bytes(
     let mut i = 0;
     while i < count {
         let address = word_at(addresses, i);
-        let claimed = vector_of(settings, counters, address);
+        let claimed = vector_of(settings, d, counters, address);
         let answer = answer_in_bytes(settings, slots, address, claimed);
         put_bytes(results, 16 * i, answer);
         i += 1;

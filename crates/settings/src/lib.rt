@@ -3,7 +3,7 @@ ghost use mathlib.Core.Path.{_≡_};
 ghost use mathlib.Core.Bool.{true};
 ghost use lib.ListN.{length};
 ghost use Rattle.rules.specs.Tools.{within};
-ghost use Rattle.rules.specs.Table.{Memory, lent, in-range, counters-size, slots-size, memory-refusal};
+ghost use Rattle.rules.specs.Table.{Memory, lent, list-in-range, in-range, counters-size, slots-size, memory-refusal};
 use rules::Settings;
 
 // Whether a number is low, high or between them.
@@ -16,28 +16,43 @@ fn is_within(low: u32, high: u32, n: u32) -> bool
     n <= high
 }
 
-// Whether K, D, E and S are each in its range.
-fn is_in_range(settings: Settings) -> bool
+// What the list of D asks: whether each is in its range and, if so, how many counters there are.
+struct Asked {
+    good: bool,
+    counters: u32,
+}
+
+// One pass over the list with no way out of it, which compiles to a few steps over many values at once. What it
+// counts is of no use where a D is out of its range.
+fn filters_asked(settings: Settings) -> Asked
+    ensures { λ r. ⌜ r .good ≡ list-in-range (settings .d) ⌝ }
+    ensures { λ r. ⌜ (list-in-range (settings .d) ≡ true → r .counters ≡ counters-size settings) ⌝ }
+{
+    let mut good = true;
+    let mut counters: u32 = 0;
+    for i in 0..32 {
+        let d = settings.d[i];
+        good = good & (4 <= d) & (d <= 11);
+        counters += 1 << ((d % 16) as u32);
+    }
+    Asked { good, counters }
+}
+
+// Whether K, E and S are each in its range and the list is good.
+fn is_in_range(settings: Settings, good: bool) -> bool
+    requires { ⌜ good ≡ list-in-range (settings .d) ⌝ }
     ensures { λ r. ⌜ r ≡ in-range settings ⌝ }
 {
     if !is_within(1, 8, settings.k) {
         return false;
     }
-    if !is_within(4, 11, settings.d) {
+    if !good {
         return false;
     }
     if !is_within(0, 8, settings.e) {
         return false;
     }
     is_within(1, 8, settings.s)
-}
-
-// How many counters the settings ask.
-fn counters_asked(settings: Settings) -> usize
-    requires { ⌜ in-range settings ≡ true ⌝ }
-    ensures { λ r. ⌜ r ≡ counters-size settings ⌝ }
-{
-    32 << (settings.d as usize)
 }
 
 // How many words of slots the settings ask.
@@ -52,10 +67,11 @@ fn slots_asked(settings: Settings) -> usize
 pub fn refuse_sizes(settings: Settings, counters: usize, slots: usize) -> u32
     ensures { λ r. ⌜ ((m : Memory) → length (m .counters) ≡ counters → length (m .slots) ≡ slots → r ≡ memory-refusal settings m 0) ⌝ }
 {
-    if !is_in_range(settings) {
+    let asked = filters_asked(settings);
+    if !is_in_range(settings, asked.good) {
         return 1;
     }
-    if counters != counters_asked(settings) {
+    if counters != asked.counters as usize {
         return 2;
     }
     if slots != slots_asked(settings) {

@@ -114,7 +114,8 @@ pub fn match_vector(settings: Settings, counters: &[u8], slots: &[u32], address:
             vector: 0,
         };
     }
-    let vector = vector_of(settings, counters, address);
+    let d = settings.d;
+    let vector = vector_of(settings, &d, counters, address);
     Vector {
         refusal: 0,
         vector: vector,
@@ -130,7 +131,8 @@ pub fn lookup(settings: Settings, counters: &[u8], slots: &[u32], address: u32) 
     if refusal != 0 {
         return answer_refused(refusal);
     }
-    let claimed = vector_of(settings, counters, address);
+    let d = settings.d;
+    let claimed = vector_of(settings, &d, counters, address);
     answer_in_words(settings, slots, address, claimed)
 }
 
@@ -155,6 +157,7 @@ pub fn lookup_list(
     if refused != 0 {
         return refused;
     }
-    list_in_words(settings, counters, slots, addresses, results);
+    let d = settings.d;
+    list_in_words(settings, &d, counters, slots, addresses, results);
     0
 }

@@ -8,10 +8,11 @@ use filters::filter_size;
 use rules::Settings;
 
 // The vector of an address: bit L - 1 is set exactly if the filter of length L claims its prefix. A step
-// down to the next shorter length clears one bit of the prefix, and leads to the filter that lies just
-// before. The bit to be cleared is 2^(32 - L): it has L - 1 zeros before it, and after length 1 it is gone.
-pub fn vector_of(settings: Settings, counters: &[u8], address: u32) -> u32
+// down to the next shorter length clears one bit of the prefix, 2^(32 - L), and leads to the filter that lies
+// just before. The list of D is lent beside the settings that hold it, since what goes by value is copied.
+pub fn vector_of(settings: Settings, d: &[u8], counters: &[u8], address: u32) -> u32
     requires { ⌜ in-range settings ≡ true ⌝ }
+    requires { ⌜ now d ≡ settings .d ⌝ }
     requires { ⌜ Counters settings (now counters) ⌝ }
     ensures { λ r. ⌜ r ≡ vector-of settings (now (counters .entry)) address ⌝ }
 {
@@ -19,14 +20,16 @@ pub fn vector_of(settings: Settings, counters: &[u8], address: u32) -> u32
     let mut p = address;
     let mut bit: u32 = 1;
     let mut start = counters.len();
-    while bit != 0 {
-        let length = u32::leading_zeros(bit) + 1;
-        start -= filter_size(settings, length);
-        if claims_prefix(settings, counters, p, length, start) {
+    let mut length: u32 = 32;
+    while length != 0 {
+        let bits = d[(length - 1) as usize] as u32;
+        start -= filter_size(bits);
+        if claims_prefix(settings, counters, p, length, start, bits) {
             vector = vector | 1 << (length - 1);
         }
         p = p & !bit;
         bit = bit << 1;
+        length -= 1;
     }
     vector
 }

@@ -3,53 +3,40 @@ use Prim.Native.Nat.{_-_, _<_}
 use mathlib.Core.Path.{refl}
 use native.Mathlib.Omega.{arith}
 use borrow.Author.Needs.{needs}
-use Rattle.rules.proofs.Placing.{ranges}
+use Rattle.rules.proofs.Placing.{ranges, bits-at}
 use Rattle.filters.specs.Visits.{k-places}
 use Rattle.filters.proofs.Hashing.{Written, all-left, one-written, all-written}
 use Rattle.filters.proofs.places_of.Statement.{statement}
 use Rattle.filters.proofs.places_of.Tie as tie
 
 abbrev Inv-loop : tie.InvT-loop
-Inv-loop settings p length start growth g₀ places₀ step₀ step-end g places step = Written settings length p growth places step g
+Inv-loop p length settings start bits growth g₀ places₀ step₀ step-end g places step = Written settings length p growth places step g
 
 abbrev μ-loop : tie.MeasureT-loop
-μ-loop settings p length start growth g₀ places₀ step₀ step-end g places step = step-end - step
-
-start-of-requires : tie.Need-start-of-requires Inv-loop μ-loop
-start-of-requires c κs = search needs
-
-growth-of-requires : tie.Need-growth-of-requires Inv-loop μ-loop
-growth-of-requires c κs = search needs
-
-product-requires : tie.Need-product-requires Inv-loop μ-loop
-product-requires c κs = search needs
-
-cast-step-end : tie.Need-cast-step-end Inv-loop μ-loop
-cast-step-end c = search needs
+μ-loop p length settings start bits growth g₀ places₀ step₀ step-end g places step = step-end - step
 
 loop-holds : tie.Need-loop-holds Inv-loop μ-loop
 loop-holds c =
     let a = c .before .before .before .before .args in
     record {
       size = refl;
-      ends = all-left (a .settings) (a .length) _ (a .p) (c .before .before .growth-of .ensures) (c .before .product .ensures);
+      ends = all-left (a .t1) (a .length) _ (a .p) (c .before .growth-of .ensures) (c .product .ensures);
       few = search needs;
     }
 
 place-of-requires : tie.Need-place-of-requires Inv-loop μ-loop
-place-of-requires c κs = search needs
+place-of-requires c κs =
+    let begun = c .before .before .before .before .before in
+    (begun .before .pre, record { begins = begun .start-of .ensures; its-bits = bits-at _ _ })
 
 few : (c : tie.In-loop Inv-loop μ-loop) → c .before .loop .step < 8
-few c = omega (arith, ranges _ (c .before .before .before .before .before .before .pre .range))
+few c = omega (arith, c .loop-test .taken, ranges _ (c .before .before .before .before .before .before .pre .range))
 
 mul-places : tie.Need-mul-places Inv-loop μ-loop
 mul-places c = omega (arith, few (c .before))
 
 array-write-places : tie.Need-array-write-places Inv-loop μ-loop
 array-write-places c = few (c .before)
-
-grow-requires : tie.Need-grow-requires Inv-loop μ-loop
-grow-requires c κs = search needs
 
 add-step : tie.Need-add-step Inv-loop μ-loop
 add-step c = omega (arith, few (c .before .before))
@@ -72,15 +59,19 @@ places-of-spec =
     (tie.spec
     Inv-loop
     μ-loop
-    start-of-requires
-    growth-of-requires
-    product-requires
-    cast-step-end
+    (λ c κs. search needs)
+    (λ c. search needs)
+    (λ c. search needs)
+    (λ c. omega (arith, c .before .pre .low, c .before .pre .high))
+    (λ c. search needs)
+    (λ c κs. search needs)
+    (λ c κs. search needs)
+    (λ c. search needs)
     loop-holds
     place-of-requires
     mul-places
     array-write-places
-    grow-requires
+    (λ c κs. search needs)
     add-step
     loop-less
     loop-again

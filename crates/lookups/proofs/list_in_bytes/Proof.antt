@@ -14,34 +14,34 @@ use Rattle.lookups.proofs.list_in_bytes.Statement.{statement}
 use Rattle.lookups.proofs.list_in_bytes.Tie as tie
 
 abbrev Inv-loop : tie.InvT-loop
-Inv-loop settings counters slots addresses results₀ count i₀ results i =
+Inv-loop settings d counters slots addresses results₀ count i₀ results i =
     Listing bytes-of settings (lent counters (words slots)) (words addresses) results₀ results i
 
 abbrev μ-loop : tie.MeasureT-loop
-μ-loop settings counters slots addresses results₀ count i₀ results i = count - i
+μ-loop settings d counters slots addresses results₀ count i₀ results i = count - i
 
 loop-holds : tie.Need-loop-holds Inv-loop μ-loop
 loop-holds c = listing-none as-bytes _ _ _ _
 
 -- the results are sixteen bytes to an address
-full : (w : tie.After-word-count Inv-loop μ-loop) → let e = w .before .before .before .before .before in
+full : (w : tie.After-word-count Inv-loop μ-loop) → let e = w .before .before .before .before .before .before in
     length (now (e .args .results)) ≡ 4 * (4 * length (words (now (e .args .addresses))))
 full w =
-    let e = w .before .before .before .before .before in
-    let sizes = e .pre .1 .1 .1 in
+    let e = w .before .before .before .before .before .before in
+    let sizes = e .pre .1 .1 .1 .1 in
     omega (arith, sizes .0, sizes .1, count-whole (now (e .args .addresses)) (sizes .0))
 
 word-at-requires : tie.Need-word-at-requires Inv-loop μ-loop
 word-at-requires c κs = rw (← c .before .before .word-count .ensures) (c .loop-test .taken)
 
 -- past the checks, the memory fits
-fit : (w : tie.After-word-count Inv-loop μ-loop) → let a = w .before .before .before .before .before .args in Fitted (a .settings) (now (a .counters)) (words (now (a .slots)))
-fit w = let pre = w .before .before .before .before .before .pre in record { range = pre .0; counters-fit = pre .1 .0 .size; slots-fit = pre .1 .1 .0 .size }
+fit : (w : tie.After-word-count Inv-loop μ-loop) → let a = w .before .before .before .before .before .before .args in Fitted (a .settings) (now (a .counters)) (words (now (a .slots)))
+fit w = let pre = w .before .before .before .before .before .before .pre in record { range = pre .0; counters-fit = pre .1 .1 .0 .size; slots-fit = pre .1 .1 .1 .0 .size }
 
 mul-put-bytes : tie.Need-mul-put-bytes Inv-loop μ-loop
 mul-put-bytes c =
     let counted = c .before .before .before .before .before .before in
-    omega (arith, full counted, counted .word-count .ensures)
+    omega (arith, full counted, counted .word-count .ensures, counted .before .before .before .before .before .before .good .1 .1 .1 .1 .1 .0)
 
 put-bytes-requires : tie.Need-put-bytes-requires Inv-loop μ-loop
 put-bytes-requires c κs =

@@ -12,27 +12,27 @@ use Rattle.lookups.proofs.list_in_words.Statement.{statement}
 use Rattle.lookups.proofs.list_in_words.Tie as tie
 
 abbrev Inv-loop : tie.InvT-loop
-Inv-loop settings counters slots addresses results₀ i₀ results i = Listing (λ words. words) settings (lent counters slots) addresses results₀ results i
+Inv-loop settings d counters slots addresses results₀ i₀ results i = Listing (λ words. words) settings (lent counters slots) addresses results₀ results i
 
 abbrev μ-loop : tie.MeasureT-loop
-μ-loop settings counters slots addresses results₀ i₀ results i = length addresses - i
+μ-loop settings d counters slots addresses results₀ i₀ results i = length addresses - i
 
 loop-holds : tie.Need-loop-holds Inv-loop μ-loop
 loop-holds c = listing-none as-words _ _ _ _
 
 -- past the checks, the memory fits
-fit : (c : tie.At-loop Inv-loop μ-loop) → let a = c .before .before .before .before .before .args in Fitted (a .settings) (now (a .counters)) (now (a .slots))
-fit c = let pre = c .before .before .before .before .before .pre in record { range = pre .0; counters-fit = pre .1 .0 .size; slots-fit = pre .1 .1 .0 .size }
+fit : (c : tie.At-loop Inv-loop μ-loop) → let a = c .before .before .before .before .before .before .args in Fitted (a .settings) (now (a .counters)) (now (a .slots))
+fit c = let pre = c .before .before .before .before .before .before .pre in record { range = pre .0; counters-fit = pre .1 .1 .0 .size; slots-fit = pre .1 .1 .1 .0 .size }
 
 mul-put-words : tie.Need-mul-put-words Inv-loop μ-loop
 mul-put-words c =
     let at-loop = c .before .before .before .before .before in
-    omega (arith, at-loop .before .before .before .before .before .pre .1 .1 .1)
+    omega (arith, at-loop .before .before .before .before .before .before .pre .1 .1 .1 .1)
 
 put-words-requires : tie.Need-put-words-requires Inv-loop μ-loop
 put-words-requires c κs =
     let at-loop = c .before .before .before .before .before in
-    omega (arith, at-loop .before .before .before .before .before .pre .1 .1 .1, listing-size as-words _ _ _ _ (at-loop .loop .inv))
+    omega (arith, at-loop .before .before .before .before .before .before .pre .1 .1 .1 .1, listing-size as-words _ _ _ _ (at-loop .loop .inv))
 
 loop-again : tie.Need-loop-again Inv-loop μ-loop
 loop-again c =
@@ -49,7 +49,7 @@ same-length c = listing-size as-words _ _ _ _ (c .before .loop .inv)
 
 returns : tie.Need-returns Inv-loop μ-loop
 returns c =
-    listing-all as-words _ _ _ _ (c .before .loop .inv) (c .loop-test .left) (omega (arith, c .before .before .before .before .before .before .pre .1 .1 .1))
+    listing-all as-words _ _ _ _ (c .before .loop .inv) (c .loop-test .left) (omega (arith, c .before .before .before .before .before .before .before .pre .1 .1 .1 .1))
 
 pub list-in-words-spec : {M : Type 1} → statement M
 list-in-words-spec =

@@ -12,43 +12,40 @@ returns : tie.Need-returns
 unfolding in-range
 returns c = simp (told-false (c .before .is-within .ensures) (c .if1 .taken))
 
-is-within-requires-2 : tie.Need-is-within-requires-2
-is-within-requires-2 c κs = search needs
-
 returns-2 : tie.Need-returns-2
 unfolding in-range
 returns-2 c =
     simp (
-      told-true (c .before .before .before .is-within .ensures) (c .before .before .if1 .left),
-      told-false (c .before .is-within2 .ensures) (c .if2 .taken),
+      told-true (c .before .before .is-within .ensures) (c .before .if1 .left),
+      told-false (c .before .before .before .pre) (c .if2 .taken),
     )
 
-is-within-requires-3 : tie.Need-is-within-requires-3
-is-within-requires-3 c κs = search needs
+is-within-requires-2 : tie.Need-is-within-requires-2
+is-within-requires-2 c κs = search needs
 
 returns-3 : tie.Need-returns-3
 unfolding in-range
 returns-3 c =
     let d = c .before .before in
     simp (
-      told-true (d .before .before .before .is-within .ensures) (d .before .before .if1 .left),
-      told-true (d .before .is-within2 .ensures) (d .if2 .left),
-      told-false (c .before .is-within3 .ensures) (c .if3 .taken),
+      told-true (d .before .before .is-within .ensures) (d .before .if1 .left),
+      told-true (d .before .before .before .pre) (d .if2 .left),
+      told-false (c .before .is-within2 .ensures) (c .if3 .taken),
     )
 
-is-within-requires-4 : tie.Need-is-within-requires-4
-is-within-requires-4 c κs = search needs
+is-within-requires-3 : tie.Need-is-within-requires-3
+is-within-requires-3 c κs = search needs
 
 returns-4 : tie.Need-returns-4
 unfolding in-range
 returns-4 c =
     let d = c .before .before .before in
     simp (
-      told-true (d .before .before .before .is-within .ensures) (d .before .before .if1 .left),
-      told-true (d .before .is-within2 .ensures) (d .if2 .left),
-      told-true (c .before .before .is-within3 .ensures) (c .before .if3 .left),
+      told-true (d .before .before .is-within .ensures) (d .before .if1 .left),
+      told-true (d .before .before .before .pre) (d .if2 .left),
+      told-true (c .before .before .is-within2 .ensures) (c .before .if3 .left),
     )
-    (c .is-within4 .ensures)
+    (c .is-within3 .ensures)
 
 pub is-in-range-spec : {M : Type 1} → statement M
 is-in-range-spec =
@@ -56,9 +53,8 @@ is-in-range-spec =
     (tie.spec
     is-within-requires
     returns
-    is-within-requires-2
     returns-2
-    is-within-requires-3
+    is-within-requires-2
     returns-3
-    is-within-requires-4
+    is-within-requires-3
     returns-4)

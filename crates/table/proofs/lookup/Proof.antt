@@ -1,5 +1,5 @@
 -- The checks are those of the rules, and past them the vector and what it answers are.
-use mathlib.Core.Path.{_∙_, sym}
+use mathlib.Core.Path.{_∙_, refl, sym}
 use denote.Ref.{now}
 use borrow.Author.Needs.{needs}
 use Rattle.rules.proofs.Refusals.{Fitted, memory-passed}
@@ -16,13 +16,13 @@ fit : (c : tie.Else1) → let a = c .before .before .before .before .args in Fit
 fit c = memory-passed _ _ _ 0 (sym (c .before .refuse-memory .ensures) ∙ c .if1 .left) .0
 
 vector-of-requires : tie.Need-vector-of-requires
-vector-of-requires c κs = (fit c .range, record { size = fit c .counters-fit })
+vector-of-requires c κs = let past = fit (c .before .before) in (past .range, (refl, record { size = past .counters-fit }))
 
 answer-in-words-requires : tie.Need-answer-in-words-requires
-answer-in-words-requires c κs = (fit (c .before) .range, record { size = fit (c .before) .slots-fit })
+answer-in-words-requires c κs = let past = fit (c .before .before .before) in (past .range, record { size = past .slots-fit })
 
 returns-2 : tie.Need-returns-2
-returns-2 c = c .answer-in-words .ensures ∙ sym (by-vector _ _ _ _ _ (fit (c .before .before)) (c .before .vector-of .ensures))
+returns-2 c = c .answer-in-words .ensures ∙ sym (by-vector _ _ _ _ _ (fit (c .before .before .before .before)) (c .before .vector-of .ensures))
 
 pub lookup-spec : {M : Type 1} → statement M
 lookup-spec =
@@ -31,6 +31,7 @@ lookup-spec =
     (λ c κs. search needs)
     (λ c κs. search needs)
     returns
+    (λ c. search needs)
     vector-of-requires
     answer-in-words-requires
     returns-2)

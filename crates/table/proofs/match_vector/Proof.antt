@@ -1,5 +1,5 @@
 -- The checks are those of the rules, and then the vector is the one of the address.
-use mathlib.Core.Path.{_∙_, sym}
+use mathlib.Core.Path.{_∙_, refl, sym}
 use borrow.Author.Tests.{ne-eqb}
 use Rattle.rules.specs.Table.{match-vector}
 use Rattle.rules.proofs.Refusals.{memory-passed}
@@ -13,13 +13,13 @@ returns c = simp (← (c .before .refuse-memory .ensures), ne-eqb _ _ (c .if1 .t
 
 vector-of-requires : tie.Need-vector-of-requires
 vector-of-requires c κs =
-    let f = memory-passed _ _ _ 0 (sym (c .before .refuse-memory .ensures) ∙ c .if1 .left) .0 in
-    (f .range, record { size = f .counters-fit })
+    let f = memory-passed _ _ _ 0 (sym (c .before .before .before .refuse-memory .ensures) ∙ c .before .before .if1 .left) .0 in
+    (f .range, (refl, record { size = f .counters-fit }))
 
 returns-2 : tie.Need-returns-2
 unfolding match-vector
-returns-2 c = simp (← (c .before .before .refuse-memory .ensures), c .before .if1 .left, ← (c .vector-of .ensures))
+returns-2 c = simp (← (c .before .before .before .before .refuse-memory .ensures), c .before .before .before .if1 .left, ← (c .vector-of .ensures))
 
 pub match-vector-spec : {M : Type 1} → statement M
 match-vector-spec =
-    tie.close (tie.spec (λ c κs. search needs) returns vector-of-requires returns-2)
+    tie.close (tie.spec (λ c κs. search needs) returns (λ c. search needs) vector-of-requires returns-2)

@@ -1,17 +1,18 @@
--- The bit to be cleared says which length has its turn; prefix and filter go down with it by `prefix-next` and `filter-next`.
-use Prim.Native.Nat.{ℕ, suc, _+_, _-_, _%_, _^_, _≤_}
+-- Prefix, bit and filter go down with the length: `prefix-next` and `filter-next`.
+use Prim.Native.Nat.{ℕ, suc, _-_, _%_, _^_, _≤_}
 use mathlib.Core.Path.{_≡_, refl, sym, ap, _∙_}
 use mathlib.Core.Bool.{Bool}
 use mathlib.Core.List.{List}
 use mathlib.Core.Logic.{⊎-elim}
-use native.Mathlib.Nat.{mod-eq-of-lt, eq-zero-or-pos, two-pow-succ}
+use native.Mathlib.Nat.{mod-eq-of-lt, pos-of-ne-zero}
 use native.Mathlib.Omega.{arith}
-use lib.Count.{leadingZeros, leading-unique}
-use lib.Pow.{pow-pos, pow-lt, pow-add}
+use borrow.Author.Needs.{needs}
+use lib.ListN.{getD}
+use lib.Pow.{pow-lt, pow-add}
 use Rattle.rules.specs.declared.Settings.{Settings}
 use Rattle.rules.specs.Table.{prefix, filter-bits, filter-start, claims, vector-of}
 use Rattle.rules.specs.Ready.{Ready}
-use Rattle.rules.proofs.Placing.{filter-next, filter-after-32}
+use Rattle.rules.proofs.Placing.{length-listed, bits-at, filter-bits-high, filter-next, filter-after-32}
 use Rattle.rules.proofs.Prefixes.{prefix-32, prefix-next}
 use Rattle.rules.proofs.Vectors.{one-bit, filled, none-filled, bit-filled, bit-passed, all-filled}
 use Rattle.vectors.proofs.vector_of.Statement.{statement}
@@ -21,131 +22,95 @@ abbrev claimed : Settings → List ℕ → (address L : ℕ) → Bool
 claimed t counters address L = claims t counters L (prefix L address)
 
 -- what stands where the turn of a length comes; length 0 comes after the last one, and its bit is past the 32
-record Turn (t : Settings) (counters : List ℕ) (address vector p bit start : ℕ) : Type 0 where
-  pub length : ℕ
+record Turn (t : Settings) (counters : List ℕ) (address vector p bit start length : ℕ) : Type 0 where
   pub few : length ≤ 32
   pub cut : p ≡ prefix length address
   pub its-bit : bit ≡ 2 ^ (32 - length) % 2 ^ 32
   pub ends : start ≡ filter-start t (suc length)
   pub so-far : vector ≡ filled (claimed t counters address) length
 
-module _ {t : Settings} {counters : List ℕ} {address vector p bit start : ℕ} (at : Turn t counters address vector p bit start) where
-  lowest : 1 ≤ at .length → bit ≡ 2 ^ (32 - at .length)
-  lowest some = at .its-bit ∙ mod-eq-of-lt (pow-lt {i = 32 - at .length} {j = 32} (omega arith))
-
-  -- the bit is there exactly while a length is left
-  some-left : (bit ≡ 0 → ⊥) → 1 ≤ at .length
-  some-left set = ⊎-elim (λ (e : at .length ≡ 0). absurd (set (at .its-bit ∙ rw e refl))) (λ some. some) (eq-zero-or-pos (at .length))
-
-  none-left : bit ≡ 0 → at .length ≡ 0
-  none-left gone = ⊎-elim (λ none. none) (λ some. omega (arith, lowest some, pow-pos (32 - at .length))) (eq-zero-or-pos (at .length))
-
-  -- and it has as many zeros before it as lengths come after
-  its-length : 1 ≤ at .length → leadingZeros 32 bit + 1 ≡ at .length
-  its-length some =
-      let k = 32 - at .length in
-      let twice = two-pow-succ k in
-      let zeros = leading-unique 32 (2 ^ k) (at .length - 1) (suc k) (omega (arith, at .few)) (omega (arith, twice, pow-pos k)) (omega (arith, twice)) in
-      rw (lowest some, ← zeros) (omega arith)
-
 abbrev Inv-loop : tie.InvT-loop
-Inv-loop settings counters address vector₀ p₀ bit₀ start₀ vector p bit start = Turn settings counters address vector p bit start
+Inv-loop settings d counters address vector₀ p₀ bit₀ start₀ length₀ vector p bit start length = Turn settings counters address vector p bit start length
 
 abbrev μ-loop : tie.MeasureT-loop
-μ-loop settings counters address vector₀ p₀ bit₀ start₀ vector p bit start = start
+μ-loop settings d counters address vector₀ p₀ bit₀ start₀ length₀ vector p bit start length = length
 
 loop-holds : tie.Need-loop-holds Inv-loop μ-loop
 loop-holds c =
+    let began = c .before .before in
     record {
-      length = 32;
       few = omega arith;
       cut = sym (prefix-32 _);
       its-bit = refl;
-      ends = c .before .pre .1 .size ∙ filter-after-32 _;
+      ends = began .pre .1 .1 .size ∙ filter-after-32 _ (began .pre .0);
       so-far = sym (none-filled _);
     }
 
-low : (c : tie.In-loop Inv-loop μ-loop) → 1 ≤ c .before .loop .inv .length
-low c = some-left (c .before .loop .inv) (c .loop-test .taken)
+-- what the call began with, where a length has its turn
+abbrev began : tie.In-loop Inv-loop μ-loop → tie.Start Inv-loop μ-loop
+began c = c .before .before .before .before
 
-same-length : (c : tie.In-loop Inv-loop μ-loop) → leadingZeros 32 (c .before .loop .bit) + 1 ≡ c .before .loop .inv .length
-same-length c = its-length (c .before .loop .inv) (low c)
+low : (c : tie.In-loop Inv-loop μ-loop) → 1 ≤ c .before .loop .length
+low c = pos-of-ne-zero (c .loop-test .taken)
 
-add-length : tie.Need-add-length Inv-loop μ-loop
-add-length c = omega (arith, same-length c, c .before .loop .inv .few)
+ready : (c : tie.In-loop Inv-loop μ-loop) → Ready (began c .args .settings) (c .before .loop .length)
+ready c = record { range = began c .pre .0; low = low c; high = c .before .loop .inv .few }
 
-ready : (c : tie.In-loop Inv-loop μ-loop) → Ready (c .before .before .before .args .settings) (c .before .loop .inv .length)
-ready c = record { range = c .before .before .before .pre .0; low = low c; high = c .before .loop .inv .few }
+-- the list that is lent has the D of the length
+its-bits : (c : tie.In-loop Inv-loop μ-loop) → getD (began c .args .d .now) (c .before .loop .length - 1) 0 ≡ filter-bits (began c .args .settings) (c .before .loop .length)
+its-bits c = ap (λ (l : List ℕ). getD l (c .before .loop .length - 1) 0) (began c .pre .1 .0) ∙ bits-at _ _
+
+shared-slice-read-bits : tie.Need-shared-slice-read-bits Inv-loop μ-loop
+shared-slice-read-bits c = rw (began (c .before) .pre .1 .0) (length-listed _ _ (ready (c .before)))
+
+filter-size-requires : tie.Need-filter-size-requires Inv-loop μ-loop
+filter-size-requires c κs = rw (its-bits (c .before)) (filter-bits-high _ _ (ready (c .before)))
 
 -- the filter of the length begins where this leads
 record Begins (c : tie.After-filter-size Inv-loop μ-loop) : Type 0 where
-  pub some : 1 ≤ c .filter-size .result
-  pub inside : c .filter-size .result ≤ c .before .before .loop .start
-  pub there : c .before .before .loop .start - c .filter-size .result ≡ filter-start (c .before .before .before .before .args .settings) (c .before .before .loop .inv .length)
+  pub inside : c .filter-size .result ≤ c .before .before .before .loop .start
+  pub there : c .before .before .before .loop .start - c .filter-size .result ≡ filter-start (began (c .before .before) .args .settings) (c .before .before .before .loop .length)
 
 begins : (c : tie.After-filter-size Inv-loop μ-loop) → Begins c
 begins c =
-    let at = c .before .before .loop .inv in
-    let t = c .before .before .before .before .args .settings in
-    let next = filter-next t (at .length) (low (c .before)) in
-    let size = rw (same-length (c .before)) at (c .filter-size .ensures) in
-    record {
-      some = rw size (pow-pos (filter-bits t (at .length)));
-      inside = omega (arith, at .ends, next, size);
-      there = omega (arith, at .ends, next, size);
-    }
+    let turn = c .before .before in
+    let next = filter-next _ _ (ready turn) in
+    let size = rw (its-bits turn) at (c .filter-size .ensures) in
+    record { inside = omega (arith, turn .before .loop .inv .ends, next, size); there = omega (arith, turn .before .loop .inv .ends, next, size) }
 
 claims-prefix-requires : tie.Need-claims-prefix-requires Inv-loop μ-loop
-claims-prefix-requires c κs = rw (same-length (c .before)) (ready (c .before), (c .before .before .before .before .pre .1, begins c .there))
-
-sub-vector : tie.Need-sub-vector Inv-loop μ-loop
-sub-vector c =
-    let turn = c .before .before .before in
-    omega (arith, same-length turn, turn .before .loop .inv .few)
-
-shl-vector : tie.Need-shl-vector Inv-loop μ-loop
-shl-vector c =
-    let turn = c .before .before .before in
-    omega (arith, same-length turn, turn .before .loop .inv .few)
-
-loop-less : tie.Need-loop-less Inv-loop μ-loop
-loop-less c =
-    let begun = begins (c .before .before) in
-    omega (arith, begun .some, begun .inside)
+claims-prefix-requires c κs =
+    let turn = c .before .before in
+    (ready turn, (began turn .pre .1 .1, record { begins = begins c .there; its-bits = its-bits turn }))
 
 -- what the filter of the length says of the address
 told : (c : tie.After-claims-prefix Inv-loop μ-loop) →
-    let head = c .before .before .before in
-    let a = head .before .before .args in
-    claimed (a .settings) (a .counters .now) (a .address) (head .loop .inv .length) ≡ c .claims-prefix .result
-told c =
-    let turn = c .before .before in
-    rw (← same-length turn) (ap (claims _ _ _) (rw (same-length turn) (sym (turn .before .loop .inv .cut))) ∙ sym (c .claims-prefix .ensures))
+    let turn = c .before .before .before in
+    let a = began turn .args in
+    claimed (a .settings) (a .counters .now) (a .address) (turn .before .loop .length) ≡ c .claims-prefix .result
+told c = ap (claims _ _ _) (sym (c .before .before .before .before .loop .inv .cut)) ∙ sym (c .claims-prefix .ensures)
 
 loop-again : tie.Need-loop-again Inv-loop μ-loop
 loop-again c =
-    let turn = c .before .before .before in
+    let turn = c .before .before .before .before in
     let at = turn .before .loop in
-    let L = at .inv .length in
-    let its = lowest (at .inv) (low turn) in
+    let L = at .length in
+    let its = at .inv .its-bit ∙ mod-eq-of-lt (pow-lt {i = 32 - L} {j = 32} (omega (arith, low turn))) in
     record {
-      length = L - 1;
       few = omega (arith, at .inv .few);
-      cut = rw (at .inv .cut, its) (prefix-next L _ (low turn) (at .inv .few) (turn .before .before .before .fits .address .fits));
+      cut = rw (at .inv .cut, its) (prefix-next L _ (low turn) (at .inv .few) (began turn .fits .address .fits));
       its-bit = rw (its, ← pow-add 2 (32 - L) 1) (ap (λ (n : ℕ). 2 ^ n % 2 ^ 32) (omega (arith, low turn, at .inv .few)));
       ends = begins (c .before .before) .there ∙ ap (filter-start _) (omega (arith, low turn));
       so-far =
           ⊎-elim
-          (λ w. rw (w .1, same-length turn, one-bit L (low turn) (at .inv .few), at .inv .so-far) (bit-filled (claimed _ _ _) L (low turn) (at .inv .few) (told (c .before) ∙ w .0 .taken)))
+          (λ w. rw (w .1, one-bit L (low turn) (at .inv .few), at .inv .so-far) (bit-filled (claimed _ _ _) L (low turn) (at .inv .few) (told (c .before) ∙ w .0 .taken)))
           (λ w. w .1 ∙ at .inv .so-far ∙ bit-passed (claimed _ _ _) L (low turn) (at .inv .few) (told (c .before) ∙ w .0 .left))
           (c .if1 .came);
     }
 
 returns : tie.Need-returns Inv-loop μ-loop
 unfolding vector-of
-returns c =
-    let at = c .before .loop in
-    at .inv .so-far ∙ ap (filled (claimed _ _ _)) (none-left (at .inv) (c .loop-test .left)) ∙ all-filled _
+returns c = c .before .loop .inv .so-far ∙ ap (filled (claimed _ _ _)) (c .loop-test .left) ∙ all-filled _
 
 pub vector-of-spec : {M : Type 1} → statement M
 vector-of-spec =
@@ -154,12 +119,16 @@ vector-of-spec =
     Inv-loop
     μ-loop
     loop-holds
-    add-length
-    (λ c κs. rw (same-length c) (ready c))
+    low
+    (λ c. search needs)
+    shared-slice-read-bits
+    (λ c. record { fits = omega (arith, its-bits (c .before), filter-bits-high _ _ (ready (c .before))) })
+    filter-size-requires
     (λ c. begins c .inside)
     claims-prefix-requires
-    sub-vector
-    shl-vector
-    loop-less
+    (λ c. low (c .before .before .before .before))
+    (λ c. omega (arith, ready (c .before .before .before .before) .high))
+    (λ c. low (c .before .before .before .before))
+    (λ c. omega (arith, low (c .before .before .before .before)))
     loop-again
     returns)
