@@ -18,40 +18,40 @@ use Rattle.gateway.proofs.gateway_lookup_list.Reads as lookup-list
 use Rattle.gateway.proofs.gateway_update.Reads as update
 use Rattle.gateway.proofs.gateway_write_withdrawal.Reads as write-withdrawal
 
--- the two lists that an update leaves stand after the seven settings
+-- the two lists that an update leaves stand after the settings
 alike : (u : Update) {r q : ℕ} {counters bytes slots words : List ℕ} → Crossed u r counters slots → Crossed u q bytes words
     → (r ≡ q) × ((counters ≡ bytes) × (slots ≡ words))
 alike u one other =
     let same = one .memory ∙ sym (other .memory) in
     (one .number ∙ sym (other .number), (ap (λ (m : Memory). m .counters) same, ap (λ (m : Memory). m .slots) same))
 
-pub clear-determined : (κs : Lfts 2) (a : _) (r q : _) (s e : _) → clear.Post κs a r s → clear.Post κs a q e
+pub clear-determined : (κs : Lfts 3) (a : _) (r q : _) (s e : _) → clear.Post κs a r s → clear.Post κs a q e
     → (r ≡ q) × ((now (past s .0) ≡ now (past e .0)) × (now (past s .1 .0) ≡ now (past e .1 .0)))
 clear-determined κs a r q s e one other = alike _ one other
 
-pub add-determined : (κs : Lfts 2) (a : _) (r q : _) (s e : _) → add.Post κs a r s → add.Post κs a q e
+pub add-determined : (κs : Lfts 3) (a : _) (r q : _) (s e : _) → add.Post κs a r s → add.Post κs a q e
     → (r ≡ q) × ((now (past s .0) ≡ now (past e .0)) × (now (past s .1 .0) ≡ now (past e .1 .0)))
 add-determined κs a r q s e one other = alike _ one other
 
-pub withdraw-determined : (κs : Lfts 2) (a : _) (r q : _) (s e : _) → withdraw.Post κs a r s → withdraw.Post κs a q e
+pub withdraw-determined : (κs : Lfts 3) (a : _) (r q : _) (s e : _) → withdraw.Post κs a r s → withdraw.Post κs a q e
     → (r ≡ q) × ((now (past s .0) ≡ now (past e .0)) × (now (past s .1 .0) ≡ now (past e .1 .0)))
 withdraw-determined κs a r q s e one other = alike _ one other
 
-pub change-determined : (κs : Lfts 2) (a : _) (r q : _) (s e : _) → change.Post κs a r s → change.Post κs a q e
+pub change-determined : (κs : Lfts 3) (a : _) (r q : _) (s e : _) → change.Post κs a r s → change.Post κs a q e
     → (r ≡ q) × ((now (past s .0) ≡ now (past e .0)) × (now (past s .1 .0) ≡ now (past e .1 .0)))
 change-determined κs a r q s e one other = alike _ one other
 
-pub match-vector-determined : (κs : Lfts 2) (a : _) (r q : _) (s e : _) → match-vector.Post κs a r s → match-vector.Post κs a q e → r ≡ q
+pub match-vector-determined : (κs : Lfts 3) (a : _) (r q : _) (s e : _) → match-vector.Post κs a r s → match-vector.Post κs a q e → r ≡ q
 match-vector-determined κs a r q s e one other = one ∙ sym other
 
-pub lookup-determined : (κs : Lfts 2) (a : _) (r q : _) (s e : _) → lookup.Post κs a r s → lookup.Post κs a q e → r ≡ q
+pub lookup-determined : (κs : Lfts 3) (a : _) (r q : _) (s e : _) → lookup.Post κs a r s → lookup.Post κs a q e → r ≡ q
 lookup-determined κs a r q s e one other = one ∙ sym other
 
-pub lookup-list-determined : (κs : Lfts 4) (a : _) (r q : _) (s e : _) → lookup-list.Post κs a r s → lookup-list.Post κs a q e
+pub lookup-list-determined : (κs : Lfts 5) (a : _) (r q : _) (s e : _) → lookup-list.Post κs a r s → lookup-list.Post κs a q e
     → (r ≡ q) × (now (past s .1 .1 .1 .0) ≡ now (past e .1 .1 .1 .0))
 lookup-list-determined κs a r q s e one other = (one .number ∙ sym (other .number), one .results ∙ sym (other .results))
 
-pub update-determined : (κs : Lfts 4) (a : _) (r q : _) (s e : _) → update.Post κs a r s → update.Post κs a q e
+pub update-determined : (κs : Lfts 5) (a : _) (r q : _) (s e : _) → update.Post κs a r s → update.Post κs a q e
     → (r ≡ q) × ((now (past s .0) ≡ now (past e .0)) × (now (past s .1 .0) ≡ now (past e .1 .0)))
 update-determined κs a r q s e one other =
     let same = one .memory ∙ sym (other .memory) in

@@ -6,8 +6,8 @@ use Rattle.rules.specs.declared.Settings.{Settings}
 use Rattle.rules.specs.Table.{Update, lent, Listed}
 use Rattle.messages.specs.Reading.{Read, report-number}
 
--- the seven numbers that come first in every call
-abbrev pub settings-of : (k d e s a b c : ℕ) → Settings
+-- what comes first in every call: K, the list of D, which may have any count, and five numbers more
+abbrev pub settings-of : (k : ℕ) (d : List ℕ) (e s a b c : ℕ) → Settings
 settings-of k d e s a b c = record { k = k; d = d; e = e; s = s; a = a; b = b; c = c }
 
 -- what an update gives back and leaves: refusal·2^48, the counters and the slots

@@ -3,6 +3,9 @@
 // low byte first; the updates write them as words of the machine. What a C program may rely on is
 // proved in crates/c_promises and, of messages, in crates/message_promises.
 ghost use mathlib.Core.Path.{_≡_};
+ghost use mathlib.Core.Bool.{true};
+ghost use lib.Dec.{eqb};
+ghost use lib.ListN.{length};
 ghost use Rattle.rules.specs.Table.{lent, words, memory-refusal, lookup, match-vector, c-lookup, c-match-vector, answered, c-lookup-list, clear, add, withdraw, change};
 ghost use Rattle.messages.specs.Reading.{update};
 ghost use Rattle.messages.specs.Writing.{write-withdrawal};
@@ -22,13 +25,25 @@ use settings::refuse_sizes;
 use vectors::vector_of;
 use words::word_count;
 
-// The seven numbers that come first in every call on a table, as settings.
-fn settings_of(k: u32, d: u32, e: u32, s: u32, a: u32, b: u32, c: u32) -> Settings
-    ensures { λ r. ⌜ r ≡ settings-of k d e s a b c ⌝ }
+// Whether a list of D has a value for each of the 32 lengths. Every call on a table asks this first.
+fn is_whole(d: &[u8]) -> bool
+    ensures { λ r. ⌜ r ≡ eqb (length (now (d .entry))) 32 ⌝ }
 {
+    d.len() == 32
+}
+
+// What comes first in every call on a table, as settings, where the list of D is whole.
+fn settings_of(k: u32, d: &[u8], e: u32, s: u32, a: u32, b: u32, c: u32) -> Settings
+    requires { ⌜ eqb (length (now d)) 32 ≡ true ⌝ }
+    ensures { λ r. ⌜ r ≡ settings-of k (now (d .entry)) e s a b c ⌝ }
+{
+    let mut list = [0; 32];
+    for i in 0..32 {
+        list[i] = d[i];
+    }
     Settings {
         k,
-        d,
+        d: list,
         e,
         s,
         a,
@@ -45,25 +60,28 @@ fn refuse_bytes(settings: Settings, counters: &[u8], slots: &[u8]) -> u32
 }
 
 // The answer to an address, from slots that are lent as bytes.
-fn lookup(settings: Settings, counters: &[u8], slots: &[u8], address: u32) -> Answer
+fn lookup(settings: Settings, d: &[u8], counters: &[u8], slots: &[u8], address: u32) -> Answer
+    requires { ⌜ now d ≡ settings .d ⌝ }
     ensures { λ r. ⌜ r ≡ lookup settings (lent (now (counters .entry)) (words (now (slots .entry)))) address ⌝ }
 {
     let refusal = refuse_bytes(settings, counters, slots);
     if refusal != 0 {
         return answer_refused(refusal);
     }
-    let claimed = vector_of(settings, counters, address);
+    let claimed = vector_of(settings, d, counters, address);
     answer_in_bytes(settings, slots, address, claimed)
 }
 
 // The answers to a list of addresses, where slots, addresses and results are lent as bytes.
 fn lookup_list(
     settings: Settings,
+    d: &[u8],
     counters: &[u8],
     slots: &[u8],
     addresses: &[u8],
     results: &mut [u8],
 ) -> u32
+    requires { ⌜ now d ≡ settings .d ⌝ }
     ensures { λ r. ⌜ c-lookup-list settings (now (counters .entry)) (now (slots .entry)) (now (addresses .entry)) (now (results .entry)) ≡ answered r (now (results .exit)) ⌝ }
 {
     let refused = refuse_list(
@@ -79,12 +97,13 @@ fn lookup_list(
     if addresses.len() % 4 != 0 {
         return 18;
     }
-    list_in_bytes(settings, counters, slots, addresses, results);
+    list_in_bytes(settings, d, counters, slots, addresses, results);
     0
 }
 
 // The vector of an address, for slots that are lent as bytes.
-fn match_vector(settings: Settings, counters: &[u8], slots: &[u8], address: u32) -> Vector
+fn match_vector(settings: Settings, d: &[u8], counters: &[u8], slots: &[u8], address: u32) -> Vector
+    requires { ⌜ now d ≡ settings .d ⌝ }
     ensures { λ r. ⌜ r ≡ match-vector settings (lent (now (counters .entry)) (words (now (slots .entry)))) address ⌝ }
 {
     let refusal = refuse_bytes(settings, counters, slots);
@@ -94,7 +113,7 @@ fn match_vector(settings: Settings, counters: &[u8], slots: &[u8], address: u32)
             vector: 0,
         };
     }
-    let vector = vector_of(settings, counters, address);
+    let vector = vector_of(settings, d, counters, address);
     Vector {
         refusal: 0,
         vector: vector,
@@ -105,7 +124,7 @@ fn match_vector(settings: Settings, counters: &[u8], slots: &[u8], address: u32)
 #[no_mangle]
 pub extern "C" fn gateway_clear(
     k: u32,
-    d: u32,
+    d: &[u8],
     e: u32,
     s: u32,
     a: u32,
@@ -114,16 +133,20 @@ pub extern "C" fn gateway_clear(
     counters: &mut [u8],
     slots: &mut [u32],
 ) -> u64
-    ensures { λ r. ⌜ Crossed (clear (settings-of k d e s a b c) (lent (now (counters .entry)) (now (slots .entry)))) r (now (counters .exit)) (now (slots .exit)) ⌝ }
+    ensures { λ r. ⌜ Crossed (clear (settings-of k (now (d .entry)) e s a b c) (lent (now (counters .entry)) (now (slots .entry)))) r (now (counters .exit)) (now (slots .exit)) ⌝ }
 {
-    refusal_part(table::clear(settings_of(k, d, e, s, a, b, c), counters, slots))
+    if !is_whole(d) {
+        return refusal_part(1);
+    }
+    let settings = settings_of(k, d, e, s, a, b, c);
+    refusal_part(table::clear(settings, counters, slots))
 }
 
 // Stores a route. One that is stored keeps its slot and gets the new hop.
 #[no_mangle]
 pub extern "C" fn gateway_add(
     k: u32,
-    d: u32,
+    d: &[u8],
     e: u32,
     s: u32,
     a: u32,
@@ -135,8 +158,11 @@ pub extern "C" fn gateway_add(
     length: u32,
     hop: u32,
 ) -> u64
-    ensures { λ r. ⌜ Crossed (add (settings-of k d e s a b c) (lent (now (counters .entry)) (now (slots .entry))) prefix length hop) r (now (counters .exit)) (now (slots .exit)) ⌝ }
+    ensures { λ r. ⌜ Crossed (add (settings-of k (now (d .entry)) e s a b c) (lent (now (counters .entry)) (now (slots .entry))) prefix length hop) r (now (counters .exit)) (now (slots .exit)) ⌝ }
 {
+    if !is_whole(d) {
+        return refusal_part(1);
+    }
     let settings = settings_of(k, d, e, s, a, b, c);
     refusal_part(table::add(settings, counters, slots, prefix, length, hop))
 }
@@ -145,7 +171,7 @@ pub extern "C" fn gateway_add(
 #[no_mangle]
 pub extern "C" fn gateway_withdraw(
     k: u32,
-    d: u32,
+    d: &[u8],
     e: u32,
     s: u32,
     a: u32,
@@ -156,8 +182,11 @@ pub extern "C" fn gateway_withdraw(
     prefix: u32,
     length: u32,
 ) -> u64
-    ensures { λ r. ⌜ Crossed (withdraw (settings-of k d e s a b c) (lent (now (counters .entry)) (now (slots .entry))) prefix length) r (now (counters .exit)) (now (slots .exit)) ⌝ }
+    ensures { λ r. ⌜ Crossed (withdraw (settings-of k (now (d .entry)) e s a b c) (lent (now (counters .entry)) (now (slots .entry))) prefix length) r (now (counters .exit)) (now (slots .exit)) ⌝ }
 {
+    if !is_whole(d) {
+        return refusal_part(1);
+    }
     let settings = settings_of(k, d, e, s, a, b, c);
     refusal_part(table::withdraw(settings, counters, slots, prefix, length))
 }
@@ -166,7 +195,7 @@ pub extern "C" fn gateway_withdraw(
 #[no_mangle]
 pub extern "C" fn gateway_change(
     k: u32,
-    d: u32,
+    d: &[u8],
     e: u32,
     s: u32,
     a: u32,
@@ -178,8 +207,11 @@ pub extern "C" fn gateway_change(
     length: u32,
     hop: u32,
 ) -> u64
-    ensures { λ r. ⌜ Crossed (change (settings-of k d e s a b c) (lent (now (counters .entry)) (now (slots .entry))) prefix length hop) r (now (counters .exit)) (now (slots .exit)) ⌝ }
+    ensures { λ r. ⌜ Crossed (change (settings-of k (now (d .entry)) e s a b c) (lent (now (counters .entry)) (now (slots .entry))) prefix length hop) r (now (counters .exit)) (now (slots .exit)) ⌝ }
 {
+    if !is_whole(d) {
+        return refusal_part(1);
+    }
     let settings = settings_of(k, d, e, s, a, b, c);
     refusal_part(table::change(settings, counters, slots, prefix, length, hop))
 }
@@ -188,7 +220,7 @@ pub extern "C" fn gateway_change(
 #[no_mangle]
 pub extern "C" fn gateway_match_vector(
     k: u32,
-    d: u32,
+    d: &[u8],
     e: u32,
     s: u32,
     a: u32,
@@ -198,9 +230,13 @@ pub extern "C" fn gateway_match_vector(
     slots: &[u8],
     address: u32,
 ) -> u64
-    ensures { λ r. ⌜ r ≡ c-match-vector (settings-of k d e s a b c) (now (counters .entry)) (now (slots .entry)) address ⌝ }
+    ensures { λ r. ⌜ r ≡ c-match-vector (settings-of k (now (d .entry)) e s a b c) (now (counters .entry)) (now (slots .entry)) address ⌝ }
 {
-    number_of_vector(match_vector(settings_of(k, d, e, s, a, b, c), counters, slots, address))
+    if !is_whole(d) {
+        return refusal_part(1);
+    }
+    let settings = settings_of(k, d, e, s, a, b, c);
+    number_of_vector(match_vector(settings, d, counters, slots, address))
 }
 
 // The longest stored route that matches an address:
@@ -208,7 +244,7 @@ pub extern "C" fn gateway_match_vector(
 #[no_mangle]
 pub extern "C" fn gateway_lookup(
     k: u32,
-    d: u32,
+    d: &[u8],
     e: u32,
     s: u32,
     a: u32,
@@ -218,9 +254,13 @@ pub extern "C" fn gateway_lookup(
     slots: &[u8],
     address: u32,
 ) -> u64
-    ensures { λ r. ⌜ r ≡ c-lookup (settings-of k d e s a b c) (now (counters .entry)) (now (slots .entry)) address ⌝ }
+    ensures { λ r. ⌜ r ≡ c-lookup (settings-of k (now (d .entry)) e s a b c) (now (counters .entry)) (now (slots .entry)) address ⌝ }
 {
-    number_of_answer(lookup(settings_of(k, d, e, s, a, b, c), counters, slots, address))
+    if !is_whole(d) {
+        return refusal_part(1);
+    }
+    let settings = settings_of(k, d, e, s, a, b, c);
+    number_of_answer(lookup(settings, d, counters, slots, address))
 }
 
 // The lookup of each address of a list, in its order: found as 1 or 0, hop, length and probes, four
@@ -228,7 +268,7 @@ pub extern "C" fn gateway_lookup(
 #[no_mangle]
 pub extern "C" fn gateway_lookup_list(
     k: u32,
-    d: u32,
+    d: &[u8],
     e: u32,
     s: u32,
     a: u32,
@@ -239,17 +279,20 @@ pub extern "C" fn gateway_lookup_list(
     addresses: &[u8],
     results: &mut [u8],
 ) -> u64
-    ensures { λ r. ⌜ ListCrossed (c-lookup-list (settings-of k d e s a b c) (now (counters .entry)) (now (slots .entry)) (now (addresses .entry)) (now (results .entry))) r (now (results .exit)) ⌝ }
+    ensures { λ r. ⌜ ListCrossed (c-lookup-list (settings-of k (now (d .entry)) e s a b c) (now (counters .entry)) (now (slots .entry)) (now (addresses .entry)) (now (results .entry))) r (now (results .exit)) ⌝ }
 {
+    if !is_whole(d) {
+        return refusal_part(1);
+    }
     let settings = settings_of(k, d, e, s, a, b, c);
-    refusal_part(lookup_list(settings, counters, slots, addresses, results))
+    refusal_part(lookup_list(settings, d, counters, slots, addresses, results))
 }
 
 // Does one message of a neighbour: refusal·2^48 + refused·2^12 + accepted.
 #[no_mangle]
 pub extern "C" fn gateway_update(
     k: u32,
-    d: u32,
+    d: &[u8],
     e: u32,
     s: u32,
     a: u32,
@@ -260,8 +303,11 @@ pub extern "C" fn gateway_update(
     message: &[u8],
     hops: &[u32],
 ) -> u64
-    ensures { λ r. ⌜ MessageCrossed (update (settings-of k d e s a b c) (lent (now (counters .entry)) (now (slots .entry))) (now (message .entry)) (now (hops .entry))) r (now (counters .exit)) (now (slots .exit)) ⌝ }
+    ensures { λ r. ⌜ MessageCrossed (update (settings-of k (now (d .entry)) e s a b c) (lent (now (counters .entry)) (now (slots .entry))) (now (message .entry)) (now (hops .entry))) r (now (counters .exit)) (now (slots .exit)) ⌝ }
 {
+    if !is_whole(d) {
+        return refusal_part(1);
+    }
     let settings = settings_of(k, d, e, s, a, b, c);
     number_of_report(neighbours::update(settings, counters, slots, message, hops))
 }

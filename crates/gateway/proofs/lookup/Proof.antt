@@ -13,11 +13,11 @@ returns : tie.Need-returns
 returns c = stopped _ _ _ _ (c .before .before .refuse-bytes .ensures) (c .before .if1 .taken) (c .answer-refused .ensures)
 
 -- past the checks, the memory fits
-fit : (c : tie.Else1) → let a = c .before .before .before .before .args in Fitted (a .settings) (now (a .counters)) (words (now (a .slots)))
+fit : (c : tie.Else1) → let a = c .before .before .before .before .before .args in Fitted (a .settings) (now (a .counters)) (words (now (a .slots)))
 fit c = memory-passed _ _ _ 0 (sym (c .before .refuse-bytes .ensures) ∙ c .if1 .left) .0
 
 vector-of-requires : tie.Need-vector-of-requires
-vector-of-requires c κs = (fit c .range, record { size = fit c .counters-fit })
+vector-of-requires c κs = (fit c .range, (c .before .before .before .before .before .pre, record { size = fit c .counters-fit }))
 
 answer-in-bytes-requires : tie.Need-answer-in-bytes-requires
 answer-in-bytes-requires c κs = (fit (c .before) .range, record { size = fit (c .before) .slots-fit })

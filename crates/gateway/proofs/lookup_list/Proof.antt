@@ -12,7 +12,7 @@ use Rattle.gateway.proofs.lookup_list.Statement.{statement}
 use Rattle.gateway.proofs.lookup_list.Tie as tie
 
 -- 1, 2 and 18 of the sizes, as they were checked
-checked : (c : tie.After-refuse-list) → let a = c .before .before .before .before .before .before .args in
+checked : (c : tie.After-refuse-list) → let a = c .before .before .before .before .before .before .before .args in
     c .refuse-list .result ≡ list-refusal (a .settings) (lent (now (a .counters)) (words (now (a .slots)))) (length (now (a .addresses))) (length (now (a .results))) 0
 checked c = c .refuse-list .ensures _ refl (sym (c .before .word-count .ensures))
 
@@ -31,10 +31,11 @@ returns-2 c =
 list-in-bytes-requires : tie.Need-list-in-bytes-requires
 list-in-bytes-requires c κs =
     let d = c .before .before in
-    let a = d .before .before .before .before .before .before .before .args in
+    let began = d .before .before .before .before .before .before .before .before in
+    let a = began .args in
     let passed = list-passed _ _ _ (now (a .counters)) (words (now (a .slots))) 0 (sym (checked (d .before)) ∙ d .if1 .left) in
     let fit = passed .0 in
-    (fit .range, (record { size = fit .counters-fit }, (record { size = fit .slots-fit }, (c .before .if2 .left, passed .1))))
+    (fit .range, (began .pre, (record { size = fit .counters-fit }, (record { size = fit .slots-fit }, (c .before .if2 .left, passed .1)))))
 
 returns-3 : tie.Need-returns-3
 unfolding c-lookup-list c-list-refusal refuse

@@ -17,7 +17,7 @@ returns c = simp (← (c .before .refuse-bytes .ensures), ne-eqb _ _ (c .if1 .ta
 vector-of-requires : tie.Need-vector-of-requires
 vector-of-requires c κs =
     let f = memory-passed _ _ _ 0 (sym (c .before .refuse-bytes .ensures) ∙ c .if1 .left) .0 in
-    (f .range, record { size = f .counters-fit })
+    (f .range, (c .before .before .before .before .before .pre, record { size = f .counters-fit }))
 
 returns-2 : tie.Need-returns-2
 unfolding match-vector
