@@ -48,22 +48,22 @@ use Rattle.gateway.proofs.gateway_match_vector
 use Rattle.gateway.proofs.gateway_match_vector.Kinds as match-vector-kinds
 use Rattle.gateway.proofs.gateway_match_vector.Reads as match-vector-reads
 
-pub clear-made : (κs : Lfts 2) (a : ArgsD gateway_clear.signature κs) (r : ResD gateway_clear.signature κs) (end : AtExit gateway_clear.ended κs) → clear-reads.Learnt κs a r end
+pub clear-made : (κs : Lfts 3) (a : ArgsD gateway_clear.signature κs) (r : ResD gateway_clear.signature κs) (end : AtExit gateway_clear.ended κs) → clear-reads.Learnt κs a r end
     → Updated (settings a) Clear (now (past a .0)) (now (past a .1 .0)) r (now (past end .0)) (now (past end .1 .0))
 unfolding word-sized act
 clear-made κs a r end learnt = record { word = refl; crossed = learnt }
 
-pub add-made : (κs : Lfts 2) (a : ArgsD gateway_add.signature κs) (r : ResD gateway_add.signature κs) (end : AtExit gateway_add.ended κs) → GoodsP κs add-kinds.ps a → add-reads.Learnt κs a r end
+pub add-made : (κs : Lfts 3) (a : ArgsD gateway_add.signature κs) (r : ResD gateway_add.signature κs) (end : AtExit gateway_add.ended κs) → GoodsP κs add-kinds.ps a → add-reads.Learnt κs a r end
     → Updated (settings a) (Add (past a .1 .1 .0) (past a .1 .1 .1 .0) (past a .1 .1 .1 .1 .0)) (now (past a .0)) (now (past a .1 .0)) r (now (past end .0)) (now (past end .1 .0))
 unfolding word-sized act
 add-made κs a r end good learnt = record { word = lt-ltb _ _ (past good .1 .1 .0 .1); crossed = learnt }
 
-pub withdraw-made : (κs : Lfts 2) (a : ArgsD gateway_withdraw.signature κs) (r : ResD gateway_withdraw.signature κs) (end : AtExit gateway_withdraw.ended κs) → GoodsP κs withdraw-kinds.ps a → withdraw-reads.Learnt κs a r end
+pub withdraw-made : (κs : Lfts 3) (a : ArgsD gateway_withdraw.signature κs) (r : ResD gateway_withdraw.signature κs) (end : AtExit gateway_withdraw.ended κs) → GoodsP κs withdraw-kinds.ps a → withdraw-reads.Learnt κs a r end
     → Updated (settings a) (Withdraw (past a .1 .1 .0) (past a .1 .1 .1 .0)) (now (past a .0)) (now (past a .1 .0)) r (now (past end .0)) (now (past end .1 .0))
 unfolding word-sized act
 withdraw-made κs a r end good learnt = record { word = lt-ltb _ _ (past good .1 .1 .0 .1); crossed = learnt }
 
-pub change-made : (κs : Lfts 2) (a : ArgsD gateway_change.signature κs) (r : ResD gateway_change.signature κs) (end : AtExit gateway_change.ended κs) → GoodsP κs change-kinds.ps a → change-reads.Learnt κs a r end
+pub change-made : (κs : Lfts 3) (a : ArgsD gateway_change.signature κs) (r : ResD gateway_change.signature κs) (end : AtExit gateway_change.ended κs) → GoodsP κs change-kinds.ps a → change-reads.Learnt κs a r end
     → Updated (settings a) (Change (past a .1 .1 .0) (past a .1 .1 .1 .0) (past a .1 .1 .1 .1 .0)) (now (past a .0)) (now (past a .1 .0)) r (now (past end .0)) (now (past end .1 .0))
 unfolding word-sized act
 change-made κs a r end good learnt = record { word = lt-ltb _ _ (past good .1 .1 .0 .1); crossed = learnt }
@@ -71,22 +71,22 @@ change-made κs a r end good learnt = record { word = lt-ltb _ _ (past good .1 .
 -- Lookup and match vector read the slots as bytes. Where these are the bytes of the words that an update left, they are
 -- asked of the same table.
 
-pub lookup-made : (κs : Lfts 2) (a : ArgsD gateway_lookup.signature κs) (r : ResD gateway_lookup.signature κs) (end : AtExit gateway_lookup.ended κs) → GoodsP κs lookup-kinds.ps a → lookup-reads.Learnt κs a r end
+pub lookup-made : (κs : Lfts 3) (a : ArgsD gateway_lookup.signature κs) (r : ResD gateway_lookup.signature κs) (end : AtExit gateway_lookup.ended κs) → GoodsP κs lookup-kinds.ps a → lookup-reads.Learnt κs a r end
     → (slots : List ℕ) → now (past a .1 .0) ≡ bytes-of slots → LookedUp (settings a) (now (past a .0)) slots (past a .1 .1 .0) r
 lookup-made κs a r end good learnt slots lies = record { word = past good .1 .1 .0 .1; crossed = rw (← lies) learnt }
 
-pub match-vector-made : (κs : Lfts 2) (a : ArgsD gateway_match_vector.signature κs) (r : ResD gateway_match_vector.signature κs) (end : AtExit gateway_match_vector.ended κs) → GoodsP κs match-vector-kinds.ps a → match-vector-reads.Learnt κs a r end
+pub match-vector-made : (κs : Lfts 3) (a : ArgsD gateway_match_vector.signature κs) (r : ResD gateway_match_vector.signature κs) (end : AtExit gateway_match_vector.ended κs) → GoodsP κs match-vector-kinds.ps a → match-vector-reads.Learnt κs a r end
     → (slots : List ℕ) → now (past a .1 .0) ≡ bytes-of slots → Matched (settings a) (now (past a .0)) slots (past a .1 .1 .0) r
 match-vector-made κs a r end good learnt slots lies = record { word = past good .1 .1 .0 .1; crossed = rw (← lies) learnt }
 
 -- A list of addresses also tells what it left of the results.
-pub list-made : (κs : Lfts 4) (a : ArgsD gateway_lookup_list.signature κs) (r : ResD gateway_lookup_list.signature κs) (end : AtExit gateway_lookup_list.ended κs) → list-reads.Learnt κs a r end
+pub list-made : (κs : Lfts 5) (a : ArgsD gateway_lookup_list.signature κs) (r : ResD gateway_lookup_list.signature κs) (end : AtExit gateway_lookup_list.ended κs) → list-reads.Learnt κs a r end
     → (slots : List ℕ) → now (past a .1 .0) ≡ bytes-of slots → areBytes (now (past a .1 .1 .0)) ≡ true
     → ListedUp (settings a) (now (past a .0)) slots (now (past a .1 .1 .0)) r (now (past a .1 .1 .1 .0)) (now (past end .1 .1 .1 .0))
 list-made κs a r end learnt slots lies bytes = record { bytes = bytes; crossed = rw (← lies) learnt }
 
 -- In every model of the logic, what a call asks on entry holds what the types of its arguments tell.
-module _ (w : World) (κs : Lfts 2) (qs : Shares 2) where
+module _ (w : World) (κs : Lfts 3) (qs : Shares 3) where
   pub add-owned : (a : ArgsD gateway_add.signature κs) (vss : Valss (typesAt (gateway_add.signature .params) κs))
       → ent (w .𝓤) (onEntry (w .𝓤) (w .H) (w .𝓖 .A) gateway_add.signature κs qs a vss) (fact (w .𝓤) (GoodsP κs add-kinds.ps a))
   add-owned = owned w add-kinds.ps add-kinds.r κs qs
@@ -112,9 +112,9 @@ all-bytes [] fit = refl
 all-bytes (byte ∷ bytes) fit = rw (lt-ltb byte 256 (fit .0 .fits)) (all-bytes bytes (fit .1))
 
 -- Of a list they tell besides, once it is looked at (⇛), that each byte of the addresses is below 256.
-module _ (w : World) (κs : Lfts 4) (qs : Shares 4) (a : ArgsD gateway_lookup_list.signature κs) (vss : Valss (typesAt (gateway_lookup_list.signature .params) κs)) where
+module _ (w : World) (κs : Lfts 5) (qs : Shares 5) (a : ArgsD gateway_lookup_list.signature κs) (vss : Valss (typesAt (gateway_lookup_list.signature .params) κs)) where
   pub list-owned : ent (w .𝓤) (onEntry (w .𝓤) (w .H) (w .𝓖 .A) gateway_lookup_list.signature κs qs a vss) (fact (w .𝓤) (GoodsP κs list-kinds.ps a))
   list-owned = owned w list-kinds.ps list-kinds.r κs qs a vss
 
   pub list-bytes-owned : ent (w .𝓤) (onEntry (w .𝓤) (w .H) (w .𝓖 .A) gateway_lookup_list.signature κs qs a vss) (w .H .⇛ (fact (w .𝓤) (areBytes (now (past a .1 .1 .0)) ≡ true)))
-  list-bytes-owned = elements-owned w list-kinds.ps list-kinds.r κs qs a vss (fInt w8) 9 2 tt (past a .1 .1 .0) refl (all-bytes (now (past a .1 .1 .0)))
+  list-bytes-owned = elements-owned w list-kinds.ps list-kinds.r κs qs a vss (fInt w8) 9 3 tt (past a .1 .1 .0) refl (all-bytes (now (past a .1 .1 .0)))

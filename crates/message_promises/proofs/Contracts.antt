@@ -55,7 +55,7 @@ pub written-ensures : (κs : Lfts 1) (a : ArgsD write_withdrawal.signature κs) 
     → WrittenEnsured (a .0) (a .1 .0) (now (a .1 .1 .0)) r (now (end .1 .1 .0))
 written-ensures κs a r end learnt = learnt
 
-pub update-made : (κs : Lfts 4) (a : ArgsD gateway_update.signature κs) (r : ResD gateway_update.signature κs) (end : AtExit gateway_update.ended κs) → c-update-reads.Learnt κs a r end
+pub update-made : (κs : Lfts 5) (a : ArgsD gateway_update.signature κs) (r : ResD gateway_update.signature κs) (end : AtExit gateway_update.ended κs) → c-update-reads.Learnt κs a r end
     → areBytes (now (past a .1 .1 .0)) ≡ true
     → Sent (settings a) (now (past a .0)) (now (past a .1 .0)) (now (past a .1 .1 .0)) (now (past a .1 .1 .1 .0)) r (now (past end .0)) (now (past end .1 .0))
 update-made κs a r end learnt bytes = record { bytes = bytes; crossed = learnt }
@@ -85,13 +85,14 @@ module _ (w : World) (κs : Lfts 4) (qs : Shares 4) where
       → ent (w .𝓤) (onEntry (w .𝓤) (w .H) (w .𝓖 .A) update.signature κs qs a vss) (w .H .⇛ (fact (w .𝓤) (areBytes (now (a .1 .1 .1 .0)) ≡ true)))
   update-bytes-owned a vss = elements-owned w update-kinds.ps update-kinds.r κs qs a vss (fInt w8) 3 2 tt (a .1 .1 .1 .0) refl (all-bytes (now (a .1 .1 .1 .0)))
 
+module _ (w : World) (κs : Lfts 5) (qs : Shares 5) where
   pub c-update-owned : (a : ArgsD gateway_update.signature κs) (vss : Valss (typesAt (gateway_update.signature .params) κs))
       → ent (w .𝓤) (onEntry (w .𝓤) (w .H) (w .𝓖 .A) gateway_update.signature κs qs a vss) (fact (w .𝓤) (GoodsP κs c-update-kinds.ps a))
   c-update-owned = owned w c-update-kinds.ps c-update-kinds.r κs qs
 
   pub c-update-bytes-owned : (a : ArgsD gateway_update.signature κs) (vss : Valss (typesAt (gateway_update.signature .params) κs))
       → ent (w .𝓤) (onEntry (w .𝓤) (w .H) (w .𝓖 .A) gateway_update.signature κs qs a vss) (w .H .⇛ (fact (w .𝓤) (areBytes (now (past a .1 .1 .0)) ≡ true)))
-  c-update-bytes-owned a vss = elements-owned w c-update-kinds.ps c-update-kinds.r κs qs a vss (fInt w8) 9 2 tt (past a .1 .1 .0) refl (all-bytes (now (past a .1 .1 .0)))
+  c-update-bytes-owned a vss = elements-owned w c-update-kinds.ps c-update-kinds.r κs qs a vss (fInt w8) 9 3 tt (past a .1 .1 .0) refl (all-bytes (now (past a .1 .1 .0)))
 
 -- ---- Calls as they were made
 

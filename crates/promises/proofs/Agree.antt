@@ -22,7 +22,7 @@ sevens = record { counters = replicate 512 7; slots = replicate 257 7 }
 
 -- K 5, D 4, E 0, S 4 and multipliers 0: every route of length 32 lands five times on one counter
 abbrev pub Z : Settings
-Z = record { k = 5; d = 4; e = 0; s = 4; a = 0; b = 0; c = 0 }
+Z = record { k = 5; d = replicate 32 4; e = 0; s = 4; a = 0; b = 0; c = 0 }
 
 -- ---- What is due
 

@@ -11,13 +11,13 @@ use lib.Dec.{ltb, leb, eqb}
 use lib.ListN.{length}
 use borrow.Author.Tests.{ltb-true, leb-true, leb-false, lt-ltb, le-ltb, eq-eqb, ne-eqb}
 use Rattle.rules.specs.declared.Settings.{Settings}
-use Rattle.rules.specs.Tools.{within, all as every, lowest, or-else}
-use Rattle.rules.specs.Table.{in-range, Memory, counters-size, slots-size, slot-number, occupied, mark-at, prefix-at, holds, free, held, vacant, is-some, stored, refuse, sized, from-1, full, passes-15, runs-short, memory-refusal, add-refusal, withdraw-refusal, change-refusal, update, clear, add, withdraw, change, fourfold, list-refusal}
+use Rattle.rules.specs.Tools.{within, all as every, any, lowest, or-else}
+use Rattle.rules.specs.Table.{list-in-range, in-range, Memory, counters-size, slots-size, slot-number, occupied, mark-at, prefix-at, holds, free, held, vacant, is-some, stored, refuse, sized, from-1, full, passes-15, runs-short, memory-refusal, add-refusal, withdraw-refusal, change-refusal, update, clear, add, withdraw, change, fourfold, list-refusal}
 use Rattle.rules.proofs.Members.{both}
 use Rattle.rules.proofs.Prefixes.{loose-low}
 use Rattle.rules.proofs.Refusals.{memory-order, add-order, withdraw-order, change-order}
 use Rattle.promises.specs.History.{Call, Clear, Add, Withdraw, Change, act}
-use Rattle.promises.specs.Demands.{Condition, outside, some-below, every-below, there, no-slot-left, memory-conditions, route-conditions, conditions, list-conditions, NoneMet, FirstMet}
+use Rattle.promises.specs.Demands.{Condition, outside, list-outside, some-below, every-below, there, no-slot-left, memory-conditions, route-conditions, conditions, list-conditions, NoneMet, FirstMet}
 use Rattle.promises.proofs.Sums.{by-cases}
 
 -- ---- The first that is met
@@ -144,14 +144,23 @@ unfolding from-1
 from-1-up zero bad = refl
 from-1-up (suc L) bad = rw (ne-eqb (suc L) 0 (omega arith), lt-ltb 0 (suc L) (omega arith))
 
-range-outside : (t : Settings) → not (in-range t) ≡ outside 1 8 (t .k) || (outside 4 11 (t .d) || (outside 0 8 (t .e) || outside 1 8 (t .s)))
+some-outside : (d : List ℕ) → not (every (within 4 11) d) ≡ any (outside 4 11) d
+unfolding every any
+some-outside [] = refl
+some-outside (D ∷ d) = rw (not-both (within 4 11 D) (every (within 4 11) d), within-outside 4 11 D, some-outside d)
+
+listed-outside : (d : List ℕ) → not (list-in-range d) ≡ list-outside d
+unfolding list-in-range list-outside
+listed-outside d = rw (not-both (eqb (length d) 32) (every (within 4 11) d), some-outside d)
+
+range-outside : (t : Settings) → not (in-range t) ≡ outside 1 8 (t .k) || (list-outside (t .d) || (outside 0 8 (t .e) || outside 1 8 (t .s)))
 unfolding in-range
 range-outside t =
     let k = within 1 8 (t .k) in
-    let d = within 4 11 (t .d) in
+    let d = list-in-range (t .d) in
     let e = within 0 8 (t .e) in
     let s = within 1 8 (t .s) in
-    rw (not-both k (d && (e && s)), not-both d (e && s), not-both e s, within-outside 1 8 (t .k), within-outside 4 11 (t .d), within-outside 0 8 (t .e), within-outside 1 8 (t .s))
+    rw (not-both k (d && (e && s)), not-both d (e && s), not-both e s, within-outside 1 8 (t .k), listed-outside (t .d), within-outside 0 8 (t .e), within-outside 1 8 (t .s))
 
 sizes-differ : (t : Settings) (m : Memory) → not (sized t m) ≡ not (eqb (length (m .counters)) (counters-size t)) || not (eqb (length (m .slots)) (slots-size t))
 unfolding sized

@@ -7,12 +7,15 @@ use mathlib.Core.Logic.{_≢_}
 use native.Mathlib.Omega.{arith}
 use lib.Dec.{eqb, lit<, lit≤}
 use lib.ListN.{replicate}
-use mir.Syntax.{w32}
+use mir.Syntax.{w8, w32}
 use mir.Val.{Val, vint}
 use contract.Lifetimes.{Lfts}
+use denote.Array.{each, arrayVal}
 use denote.Laws.{Is}
 use denote.Ref.{RefT}
+use denote.Shadow.{shadow}
 use denote.Struct.Declared.{row}
+use denote.Struct.Field.{u8-field}
 use denote.Struct.Laws.{val}
 use Rattle.rules.specs.declared.Settings.{Settings}
 use Rattle.rules.specs.Tools.{all}
@@ -171,14 +174,21 @@ day-served = record {
 
 -- ---- Calls as they were made
 
--- settings T as a struct of seven numbers of 32 bits
+-- settings T as a struct of six numbers of 32 bits and an array of 32 bytes
 abbrev word : ℕ → List Val
 word n = vint w32 n ∷ []
 
+abbrev fours : List Val
+fours = replicate 32 (vint w8 4)
+
+each-four : (n : ℕ) → shadow (each ℕ (u8-field .row .own) (replicate n 4) (replicate n (vint w8 4)))
+each-four zero = tt
+each-four (suc n) = ((refl, lit< tt), each-four n)
+
 pub settings-good : Is (row the-type) T (val the-type the-laws T ∷ [])
 settings-good = (
-  (word 2, (word 4, (word 1, (word 2, (word 1, (word 2, (word 1, tt))))))),
-  (refl, ((refl, lit< tt), ((refl, lit< tt), ((refl, lit< tt), ((refl, lit< tt), ((refl, lit< tt), ((refl, lit< tt), ((refl, lit< tt), tt)))))))),
+  (word 2, (arrayVal fours ∷ [], (word 1, (word 2, (word 1, (word 2, (word 1, tt))))))),
+  (refl, ((refl, lit< tt), ((fours, ((refl, refl), each-four 32)), ((refl, lit< tt), ((refl, lit< tt), ((refl, lit< tt), ((refl, lit< tt), ((refl, lit< tt), tt)))))))),
 )
 
 -- a list as it is lent

@@ -47,10 +47,14 @@ there t slots L p =
 unfoldable pub no-slot-left : Settings → (slots : List ℕ) (L p : ℕ) → Bool
 no-slot-left t slots L p = every-below (λ s. occupied (mark-at slots (slot-number t L p s))) (t .s)
 
--- what every call looks at: K, D, E and S, and the sizes of the two lists
+-- the list of D is not of 32 numbers, or one of them is out of its range
+unfoldable pub list-outside : (d : List ℕ) → Bool
+list-outside d = not (eqb (length d) 32) || any (outside 4 11) d
+
+-- what every call looks at: K, the list of D, E and S, and the sizes of the two lists
 unfoldable pub memory-conditions : Settings → Memory → List Condition
 memory-conditions t m =
-    (1 when outside 1 8 (t .k) || (outside 4 11 (t .d) || (outside 0 8 (t .e) || outside 1 8 (t .s))))
+    (1 when outside 1 8 (t .k) || (list-outside (t .d) || (outside 0 8 (t .e) || outside 1 8 (t .s))))
     ∷ (2 when not (eqb (length (m .counters)) (counters-size t)) || not (eqb (length (m .slots)) (slots-size t)))
     ∷ []
 

@@ -51,7 +51,7 @@ fn serve(
 fn main() {
     let settings = Settings {
         k: 2,
-        d: 4,
+        d: [4; 32],
         e: 1,
         s: 2,
         a: 1,

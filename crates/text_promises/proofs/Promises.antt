@@ -11,9 +11,8 @@ use lib.ListN.{length, replicate}
 use lib.Dec.{lit≤}
 use Rattle.rules.specs.declared.Settings.{Settings}
 use Rattle.rules.specs.declared.Answer.{Answer}
-use Rattle.rules.specs.Tools.{within}
-use Rattle.rules.specs.Table.{in-range, Memory, lent, counters-size, slots-size, sized, refuse, memory-refusal, update, zeroed, clear, lookup}
-use Rattle.rules.proofs.Worked.{T}
+use Rattle.rules.specs.Table.{Memory, lent, clear, lookup}
+use Rattle.rules.proofs.Worked.{T, computing}
 use Rattle.spelling.specs.Spelling.{spelled}
 use Rattle.requests.specs.declared.Request.{Request}
 use Rattle.requests.specs.declared.Request.the-variants.{Add, Drop, Move, Find, Unreadable}
@@ -195,5 +194,5 @@ module _ (t : Settings) (before : Memory) (cleared : clear t before .refusal ≡
 -- settings T, and memory of zeros, which is what a clear leaves of it; 65 bytes for the line
 pub program-writes : {chunks : List (List ℕ)} {text : List ℕ} → Streamed T (lent (replicate 512 0) (replicate 257 0)) (replicate 65 0) 0 chunks text
     → text ≡ paper-answers T [] (lines (joined chunks))
-unfolding clear update memory-refusal refuse in-range within sized counters-size slots-size zeroed
+unfolding computing
 program-writes streamed = paper-says-of-calls T (lent (replicate 512 0) (replicate 257 0)) refl (lit≤ tt) streamed
