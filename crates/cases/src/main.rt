@@ -32,7 +32,7 @@ const PUT_COUNTER: u32 = 8;
 
 const PUT_WORD: u32 = 9;
 
-// K, D, E and S, a byte each.
+// K, D, E and S, a byte each. D is that of the length, or of every length where that is 0.
 const SHAPE: u32 = 10;
 
 // A, B or C.
@@ -42,20 +42,20 @@ const MULTIPLIER_B: u32 = 12;
 
 const MULTIPLIER_C: u32 = 13;
 
-// How many counters are lent.
+// How many counters are lent and, where the hop stands, how many values of D to C.
 const LEND_COUNTERS: u32 = 14;
 
 // How many words are lent and, where the hop stands, how many bytes for them to C.
 const LEND_SLOTS: u32 = 15;
 
-const CASES: [u64; 335] = [
+const CASES: [u64; 433] = [
     // Settings T, and memory that was never cleared: every slot holds 0.0.0.7 with the mark 7, and
     // every counter is 7.
     0xa_02040102_00_00000,
     0xb_00000001_00_00000,
     0xc_00000002_00_00000,
     0xd_00000001_00_00000,
-    0xe_00000200_00_00000,
+    0xe_00000200_00_00020,
     0xf_00000101_00_00404,
     0x4_00000007_00_00000,
     0x4_00000008_00_00000,
@@ -294,15 +294,15 @@ const CASES: [u64; 335] = [
     0x4_f0000001_00_00000,
     0xa_02040102_00_00000,
     // Sizes, before lengths: one too few and one too many of each, and bytes that are no whole words.
-    0xe_000001ff_00_00000,
+    0xe_000001ff_00_00020,
     0x0_00000000_00_00000,
     0x4_f0000001_00_00000,
     0x5_f0000001_00_00000,
-    0xe_00000201_00_00000,
+    0xe_00000201_00_00020,
     0x1_0a000000_21_00007,
     0x2_f0000000_04_00000,
     0x4_f0000001_00_00000,
-    0xe_00000200_00_00000,
+    0xe_00000200_00_00020,
     0xf_00000100_00_00400,
     0x0_00000000_00_00000,
     0x3_f0000000_04_00008,
@@ -324,7 +324,7 @@ const CASES: [u64; 335] = [
     0xb_9e3779b1_00_00000,
     0xc_85ebca77_00_00000,
     0xd_c2b2ae3d_00_00000,
-    0xe_00000800_00_00000,
+    0xe_00000800_00_00020,
     0xf_00000401_00_01004,
     0x0_00000000_00_00000,
     0x1_0a000000_08_00007,
@@ -348,12 +348,119 @@ const CASES: [u64; 335] = [
     0x2_0a1b0000_10_00000,
     0x6_000003f0_00_00000,
     0x6_000003ef_00_00000,
+    // Settings X: 32 values of D, of which 5 is at lengths 1 and 16, 7 at 24, 6 at 32 and 4 at the rest. W10
+    // to W12.
+    0xa_03040102_00_00000,
+    0xa_03050102_01_00000,
+    0xa_03050102_10_00000,
+    0xa_03070102_18_00000,
+    0xa_03060102_20_00000,
+    0xe_000002c0_00_00020,
+    0xf_00000101_00_00404,
+    0x0_00000000_00_00000,
+    0x1_80000000_01_00002,
+    0x1_0a000000_08_00007,
+    0x1_0a010000_10_00009,
+    0x1_0a010200_18_00005,
+    0x1_0a010202_1f_00004,
+    0x1_0a010203_20_00006,
+    0x6_00000010_00_00000,
+    0x6_000001f9_00_00000,
+    0x6_0000019d_00_00000,
+    0x6_000001c1_00_00000,
+    0x6_00000270_00_00000,
+    0x6_000002ab_00_00000,
+    0x4_0a010203_00_00000,
+    0x5_0a010203_00_00000,
+    0x4_0a010202_00_00000,
+    0x4_0a010209_00_00000,
+    0x4_0a010901_00_00000,
+    0x4_0a03bb01_00_00000,
+    0x4_c0000001_00_00000,
+    0x3_0a010200_18_00008,
+    0x4_0a010209_00_00000,
+    0x2_0a010200_18_00000,
+    0x6_000001f9_00_00000,
+    0x4_0a010209_00_00000,
+    // A D out of its range, at the first length, at the last and between them.
+    0xa_03030102_01_00000,
+    0x0_00000000_00_00000,
+    0xa_030c0102_01_00000,
+    0x1_0a010200_18_00005,
+    0xa_03050102_01_00000,
+    0xa_03030102_20_00000,
+    0x2_0a010203_20_00000,
+    0xa_030c0102_20_00000,
+    0x4_0a010203_00_00000,
+    0xa_03060102_20_00000,
+    0xa_03000102_10_00000,
+    0x5_0a010203_00_00000,
+    0xa_03ff0102_10_00000,
+    0x3_0a010203_20_00001,
+    0xa_03050102_10_00000,
+    // Counters that are not the sum of the powers: one power is another or left out, a byte is short or over.
+    0xa_03060102_18_00000,
+    0x4_0a010203_00_00000,
+    0xa_03070102_18_00000,
+    0xe_00000280_00_00020,
+    0x5_0a010203_00_00000,
+    0xe_000002bf_00_00020,
+    0x0_00000000_00_00000,
+    0xe_000002c1_00_00020,
+    0x4_0a010203_00_00000,
+    // From C with 31 values and with 33, each over as many counters as it asks, and with none; then with 31 and
+    // 33 over those of 32, and with 32 again.
+    0xe_00000280_00_0001f,
+    0x0_00000000_00_00000,
+    0x1_0a010200_18_00005,
+    0x2_0a010203_20_00000,
+    0x3_0a010203_20_00001,
+    0x4_0a010203_00_00000,
+    0x5_0a010203_00_00000,
+    0xe_000002d0_00_00021,
+    0x0_00000000_00_00000,
+    0x1_0a010200_18_00005,
+    0x2_0a010203_20_00000,
+    0x3_0a010203_20_00001,
+    0x4_0a010203_00_00000,
+    0x5_0a010203_00_00000,
+    0xe_00000000_00_00000,
+    0x0_00000000_00_00000,
+    0x4_0a010203_00_00000,
+    0xe_000002c0_00_0001f,
+    0x4_0a010203_00_00000,
+    0xe_000002c0_00_00021,
+    0x4_0a010203_00_00000,
+    0xe_000002c0_00_00020,
+    0x4_0a010203_00_00000,
+    // D 11 at length 1 alone, so that the filter of length 2 begins at byte 2,048; then at length 32 alone, whose
+    // filter has the last counter.
+    0xa_02040102_00_00000,
+    0xa_020b0102_01_00000,
+    0xb_00000001_00_00000,
+    0xc_00000002_00_00000,
+    0xd_00000001_00_00000,
+    0xe_000009f0_00_00020,
+    0x0_00000000_00_00000,
+    0x1_40000000_02_00002,
+    0x6_00000804_00_00000,
+    0xa_02040102_01_00000,
+    0xa_020b0102_20_00000,
+    0x1_ffffffff_20_00003,
+    0x6_000009ef_00_00000,
+    0x4_ffffffff_00_00000,
+    // D 11 at every length, over what was never cleared, in which the last counter is now zero.
+    0xa_020b0102_00_00000,
+    0xe_00010000_00_00020,
+    0x5_ffffffff_00_00000,
+    0x8_00000000_00_0ffff,
+    0x5_ffffffff_00_00000,
     // K 8 with unlike multipliers, one slot to a bucket.
     0xa_08050201_00_00000,
     0xb_9e3779b1_00_00000,
     0xc_7feb352d_00_00000,
     0xd_846ca68b_00_00000,
-    0xe_00000400_00_00000,
+    0xe_00000400_00_00020,
     0xf_00000101_00_00404,
     0x0_00000000_00_00000,
     0x1_c0a80000_10_00001,
@@ -376,7 +483,7 @@ const CASES: [u64; 335] = [
     0xb_9e3779b1_00_00000,
     0xc_00000000_00_00000,
     0xd_c2b2ae3d_00_00000,
-    0xe_00000200_00_00000,
+    0xe_00000200_00_00020,
     0xf_000000c1_00_00304,
     0x0_00000000_00_00000,
     0x1_c0000000_08_00001,
@@ -395,7 +502,7 @@ const CASES: [u64; 335] = [
     0xb_00000000_00_00000,
     0xc_00000000_00_00000,
     0xd_00000000_00_00000,
-    0xe_00000200_00_00000,
+    0xe_00000200_00_00020,
     0xf_00000101_00_00404,
     0x0_00000000_00_00000,
     0x1_00000001_20_00001,
@@ -421,9 +528,10 @@ const CASES: [u64; 335] = [
     0x1_00000001_20_00004,
 ];
 
-// How much of the memory is lent: counters, words, and bytes for the words to C.
+// How much is lent: counters, values of D to C, words, and bytes for the words to C.
 struct Sizes {
     counters: usize,
+    values: usize,
     words: usize,
     bytes: usize,
 }
@@ -481,14 +589,35 @@ fn wide(byte: u8) -> u32 {
     byte as u32
 }
 
+// The settings with another D at a length, or at all.
+fn set_d(t: Settings, length: u32, d: u8) -> Settings {
+    let mut next = t;
+    if length == 0 {
+        let all = [d; 32];
+        next.d = all;
+    } else if length <= 32 {
+        next.d[(length - 1) as usize] = d;
+    }
+    next
+}
+
+// The values of D as C lends them: one more than there are lengths, for a list that is too long.
+fn list_of(t: Settings) -> [u8; 33] {
+    let mut list = [4u8; 33];
+    for i in 0..32 {
+        list[i] = t.d[i];
+    }
+    list
+}
+
 // The settings after a case.
 fn set(t: Settings, case: u64) -> Settings {
     let what = what_of(case);
     let n = prefix_of(case);
     let mut next = t;
     if what == SHAPE {
+        next = set_d(t, length_of(case), (n / 0x1_0000 % 0x100) as u8);
         next.k = n / 0x100_0000;
-        next.d = n / 0x1_0000 % 0x100;
         next.e = n / 0x100 % 0x100;
         next.s = n % 0x100;
     }
@@ -510,6 +639,7 @@ fn lend(sizes: Sizes, case: u64) -> Sizes {
     let mut next = sizes;
     if what == LEND_COUNTERS {
         next.counters = prefix_of(case) as usize;
+        next.values = hop_of(case) as usize;
     }
     if what == LEND_SLOTS {
         next.words = prefix_of(case) as usize;
@@ -553,48 +683,44 @@ fn copy_words(words: &[u32], bytes: &mut [u8]) {
     }
 }
 
-// A sum with one number more; the order counts.
-fn plus(sum: u64, n: u32) -> u64 {
-    (sum % 0x100_0000_0000 * 31 + n as u64) % 0x100_0000_0000
-}
-
-fn sum_of_counters(counters: &[u8]) -> u64 {
+// A sum of bytes in which their order counts.
+fn sum_of_bytes(bytes: &[u8]) {
     let mut sum: u64 = 0;
     let mut i = 0;
-    while i < counters.len() {
-        sum = plus(sum, wide(counters[i]));
+    while i < bytes.len() {
+        sum = sum % 0x100_0000_0000 * 31 + bytes[i] as u64;
         i += 1;
     }
-    sum
+    digits(sum % 0x100_0000_0000);
 }
 
-fn sum_of_slots(slots: &[u32]) -> u64 {
+fn sum_of_words(words: &[u32]) {
     let mut sum: u64 = 0;
     let mut i = 0;
-    while i < slots.len() {
-        sum = plus(sum, slots[i]);
+    while i < words.len() {
+        sum = sum % 0x100_0000_0000 * 31 + words[i] as u64;
         i += 1;
     }
-    sum
+    digits(sum % 0x100_0000_0000);
 }
 
-fn find(t: Settings, counters: &[u8], slots: &[u32], bytes: &[u8], address: u32) {
+fn find(t: Settings, d: &[u8], counters: &[u8], slots: &[u32], bytes: &[u8], address: u32) {
     let r = table::lookup(t, counters, slots, address);
     number(r.refusal);
     number(flag(r.found));
     number(r.hop);
     number(r.length);
     number(r.probes);
-    digits(gateway::gateway_lookup(t.k, t.d, t.e, t.s, t.a, t.b, t.c, counters, bytes, address));
+    digits(gateway::gateway_lookup(t.k, d, t.e, t.s, t.a, t.b, t.c, counters, bytes, address));
 }
 
-fn vector(t: Settings, counters: &[u8], slots: &[u32], bytes: &[u8], address: u32) {
+fn vector(t: Settings, d: &[u8], counters: &[u8], slots: &[u32], bytes: &[u8], address: u32) {
     let r = table::match_vector(t, counters, slots, address);
     number(r.refusal);
     number(r.vector);
     digits(gateway::gateway_match_vector(
         t.k,
-        t.d,
+        d,
         t.e,
         t.s,
         t.a,
@@ -607,11 +733,11 @@ fn vector(t: Settings, counters: &[u8], slots: &[u32], bytes: &[u8], address: u3
 }
 
 // Asks the table.
-fn ask(t: Settings, counters: &[u8], slots: &[u32], bytes: &[u8], case: u64) {
+fn ask(t: Settings, d: &[u8], counters: &[u8], slots: &[u32], bytes: &[u8], case: u64) {
     if what_of(case) == FIND {
-        find(t, counters, slots, bytes, prefix_of(case));
+        find(t, d, counters, slots, bytes, prefix_of(case));
     } else {
-        vector(t, counters, slots, bytes, prefix_of(case));
+        vector(t, d, counters, slots, bytes, prefix_of(case));
     }
 }
 
@@ -628,18 +754,18 @@ fn read(counters: &[u8], slots: &[u32], case: u64) {
 }
 
 // Makes a call that writes, and gives back what C gets from it.
-fn act(t: Settings, counters: &mut [u8], slots: &mut [u32], case: u64) -> u64 {
+fn act(t: Settings, d: &[u8], counters: &mut [u8], slots: &mut [u32], case: u64) -> u64 {
     let what = what_of(case);
     let p = prefix_of(case);
     let length = length_of(case);
     let hop = hop_of(case);
     if what == CLEAR {
-        return gateway::gateway_clear(t.k, t.d, t.e, t.s, t.a, t.b, t.c, counters, slots);
+        return gateway::gateway_clear(t.k, d, t.e, t.s, t.a, t.b, t.c, counters, slots);
     }
     if what == ADD {
         return gateway::gateway_add(
             t.k,
-            t.d,
+            d,
             t.e,
             t.s,
             t.a,
@@ -655,7 +781,7 @@ fn act(t: Settings, counters: &mut [u8], slots: &mut [u32], case: u64) -> u64 {
     if what == WITHDRAW {
         return gateway::gateway_withdraw(
             t.k,
-            t.d,
+            d,
             t.e,
             t.s,
             t.a,
@@ -669,7 +795,7 @@ fn act(t: Settings, counters: &mut [u8], slots: &mut [u32], case: u64) -> u64 {
     }
     gateway::gateway_change(
         t.k,
-        t.d,
+        d,
         t.e,
         t.s,
         t.a,
@@ -699,32 +825,40 @@ fn damage(counters: &mut [u8], slots: &mut [u32], case: u64) {
 }
 
 // A call that writes, and what the lent memory then holds.
-fn update(t: Settings, counters: &mut [u8], slots: &mut [u32], case: u64) {
-    digits(act(t, counters, slots, case));
-    digits(sum_of_counters(counters));
-    digits(sum_of_slots(slots));
+fn update(t: Settings, d: &[u8], counters: &mut [u8], slots: &mut [u32], case: u64) {
+    digits(act(t, d, counters, slots, case));
+    sum_of_bytes(counters);
+    sum_of_words(slots);
 }
 
 // A case over the memory that is lent for it.
-fn call(t: Settings, counters: &mut [u8], slots: &mut [u32], bytes: &mut [u8], case: u64) {
+fn call(
+    t: Settings,
+    d: &[u8],
+    counters: &mut [u8],
+    slots: &mut [u32],
+    bytes: &mut [u8],
+    case: u64,
+) {
     let what = what_of(case);
     if what < FIND {
-        update(t, counters, slots, case);
+        update(t, d, counters, slots, case);
         return;
     }
     if what < COUNTER {
         copy_words(slots, bytes);
-        ask(t, counters, slots, bytes, case);
+        ask(t, d, counters, slots, bytes, case);
         return;
     }
     read(counters, slots, case);
     damage(counters, slots, case);
 }
 
-// A case over as much of the memory as is lent.
+// A case over as much of the memory and the list as is lent.
 fn call_lent(
     t: Settings,
     sizes: Sizes,
+    list: &[u8],
     counters: &mut [u8],
     slots: &mut [u32],
     bytes: &mut [u8],
@@ -733,8 +867,10 @@ fn call_lent(
     let counters_lent = least(sizes.counters, counters.len());
     let words_lent = least(sizes.words, slots.len());
     let bytes_lent = least(sizes.bytes, bytes.len());
+    let values_lent = least(sizes.values, list.len());
     call(
         t,
+        &list[..values_lent],
         &mut counters[..counters_lent],
         &mut slots[..words_lent],
         &mut bytes[..bytes_lent],
@@ -742,11 +878,26 @@ fn call_lent(
     );
 }
 
+// A case and what it writes.
+fn line(
+    t: Settings,
+    sizes: Sizes,
+    counters: &mut [u8],
+    slots: &mut [u32],
+    bytes: &mut [u8],
+    case: u64,
+) {
+    begin(case);
+    let list = list_of(t);
+    call_lent(t, sizes, &list, counters, slots, bytes, case);
+    end();
+}
+
 // The cases of a list, one after the other over the same memory.
 fn run(cases: &[u64], counters: &mut [u8], slots: &mut [u32], bytes: &mut [u8]) {
     let mut t = Settings {
         k: 0,
-        d: 0,
+        d: [0; 32],
         e: 0,
         s: 0,
         a: 0,
@@ -755,6 +906,7 @@ fn run(cases: &[u64], counters: &mut [u8], slots: &mut [u32], bytes: &mut [u8]) 
     };
     let mut sizes = Sizes {
         counters: 0,
+        values: 0,
         words: 0,
         bytes: 0,
     };
@@ -763,16 +915,14 @@ fn run(cases: &[u64], counters: &mut [u8], slots: &mut [u32], bytes: &mut [u8]) 
         let case = cases[i];
         t = set(t, case);
         sizes = lend(sizes, case);
-        begin(case);
-        call_lent(t, sizes, counters, slots, bytes, case);
-        end();
+        line(t, sizes, counters, slots, bytes, case);
         i += 1;
     }
 }
 
 fn main() {
     // Before the first clear the memory holds something else than zeros.
-    let mut counters = [7u8; 2048];
+    let mut counters = [7u8; 65536];
     let mut slots = [7u32; 1025];
     let mut bytes = [7u8; 4104];
     run(&CASES, &mut counters, &mut slots, &mut bytes);

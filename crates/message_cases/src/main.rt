@@ -35,7 +35,7 @@ const PUT_COUNTER: u32 = 8;
 
 const PUT_WORD: u32 = 9;
 
-// K, D, E and S, a byte each.
+// K, D, E and S, a byte each. D is that of the length, or of every length where that is 0.
 const SHAPE: u32 = 10;
 
 // A, B or C.
@@ -45,19 +45,19 @@ const MULTIPLIER_B: u32 = 12;
 
 const MULTIPLIER_C: u32 = 13;
 
-// How many counters are lent.
+// How many counters are lent and, where the hop stands, how many values of D to C.
 const LEND_COUNTERS: u32 = 14;
 
 // How many words are lent.
 const LEND_SLOTS: u32 = 15;
 
-const CASES: [u64; 360] = [
+const CASES: [u64; 380] = [
     // K 3, D 4, E 1, S 2 and unlike multipliers, over memory that was never cleared.
     0xa_03040102_00_00000,
     0xb_9e3779b1_00_00000,
     0xc_85ebca77_00_00000,
     0xd_c2b2ae3d_00_00000,
-    0xe_00000200_00_00000,
+    0xe_00000200_00_00020,
     0xf_00000101_00_00000,
     // The marker, and a list in which 10.9.9.1 has places 1 and 2, and 10.7.9.1 place 3.
     0x2_ffffffff_00_00000,
@@ -156,14 +156,14 @@ const CASES: [u64; 360] = [
     0x3_00_ff_0002d_000000,
     0x3_00_ff_0002d_000001,
     // 1 before 2 before 12 before 13.
-    0xe_000001ff_00_00000,
+    0xe_000001ff_00_00020,
     0xa_09040102_00_00000,
     0x3_12_04_0002d_000000,
     0xa_03040102_00_00000,
     0x3_12_04_0002d_000000,
-    0xe_00000201_00_00000,
+    0xe_00000201_00_00020,
     0x3_00_ff_0002d_000003,
-    0xe_00000200_00_00000,
+    0xe_00000200_00_00020,
     0xf_00000100_00_00000,
     0x3_00_ff_0002d_000003,
     0xf_00000102_00_00000,
@@ -375,7 +375,7 @@ const CASES: [u64; 360] = [
     0xb_00000000_00_00000,
     0xc_00000000_00_00000,
     0xd_00000000_00_00000,
-    0xe_00000200_00_00000,
+    0xe_00000200_00_00020,
     0xf_00000081_00_00000,
     0x0_00000000_00_00000,
     0x2_00290200_00_00010,
@@ -389,7 +389,7 @@ const CASES: [u64; 360] = [
     0xb_7feb352d_00_00000,
     0xc_9e3779b1_00_00000,
     0xd_846ca68b_00_00000,
-    0xe_00000400_00_00000,
+    0xe_00000400_00_00020,
     0xf_00000101_00_00000,
     0x0_00000000_00_00000,
     0x3_00_ff_00029_000003,
@@ -455,18 +455,42 @@ const CASES: [u64; 360] = [
     0x2_00020000_00_0002c,
     0x3_00_ff_0002e_000003,
     // Settings and sizes that are refused; a withdrawal is written all the same.
-    0xe_000003ff_00_00000,
+    0xe_000003ff_00_00020,
     0x3_00_ff_0002e_000003,
     0x4_0a000000_08_00019,
     0xa_02050901_00_00000,
     0x3_00_ff_0002e_000003,
     0x4_0a000000_08_00019,
+    // Unequal filters, D 4 at length 8, 7 at 24 and 5 at the rest: the six routes and 192.0.2.0/24, which is then
+    // withdrawn.
+    0xa_02050201_00_00000,
+    0xa_02040201_08_00000,
+    0xa_02070201_18_00000,
+    0xe_00000450_00_00020,
+    0x0_00000000_00_00000,
+    0x3_00_ff_0002e_000003,
+    0x4_c0000200_18_0001b,
+    // 31 values and 33, each over as many counters as it asks; a D of 3 and of 12; the counters of equal filters.
+    0xe_00000430_00_0001f,
+    0x3_00_ff_0002e_000003,
+    0xe_00000460_00_00021,
+    0x3_00_ff_0002e_000003,
+    0xe_00000450_00_00020,
+    0xa_02030201_01_00000,
+    0x3_00_ff_0002e_000003,
+    0xa_02050201_01_00000,
+    0xa_020c0201_20_00000,
+    0x3_00_ff_0002e_000003,
+    0xa_02050201_20_00000,
+    0xe_00000400_00_00020,
+    0x3_00_ff_0002e_000003,
     0x6_00001002_00_00103,
 ];
 
-// How much of the memory is lent, counters and words, and whether it is C that lends it.
+// How much is lent, counters, values of D and words, and whether it is C that lends it.
 struct Lent {
     counters: usize,
+    values: usize,
     words: usize,
     from_c: bool,
 }
@@ -518,14 +542,35 @@ fn words_lent(n: usize, words: &[u32]) -> usize
     if n < words.len() { n } else { words.len() }
 }
 
+// The settings with another D at a length, or at all.
+fn set_d(t: Settings, length: u32, d: u8) -> Settings {
+    let mut next = t;
+    if length == 0 {
+        let all = [d; 32];
+        next.d = all;
+    } else if length <= 32 {
+        next.d[(length - 1) as usize] = d;
+    }
+    next
+}
+
+// The values of D as C lends them: one more than there are lengths, for a list that is too long.
+fn list_of(t: Settings) -> [u8; 33] {
+    let mut list = [4u8; 33];
+    for i in 0..32 {
+        list[i] = t.d[i];
+    }
+    list
+}
+
 // The settings after a case.
 fn set(t: Settings, case: u64) -> Settings {
     let what = what_of(case);
     let n = prefix_of(case);
     let mut next = t;
     if what == SHAPE {
+        next = set_d(t, length_of(case), (n / 0x1_0000 % 0x100) as u8);
         next.k = n / 0x100_0000;
-        next.d = n / 0x1_0000 % 0x100;
         next.e = n / 0x100 % 0x100;
         next.s = n % 0x100;
     }
@@ -547,6 +592,7 @@ fn lend(lent: Lent, case: u64) -> Lent {
     let mut next = lent;
     if what == LEND_COUNTERS {
         next.counters = prefix_of(case) as usize;
+        next.values = hop_of(case) as usize;
     }
     if what == LEND_SLOTS {
         next.words = prefix_of(case) as usize;
@@ -600,16 +646,18 @@ fn sum_of_words(words: &[u32]) {
 // Reads a message, and shows what it gives back.
 fn update(
     t: Settings,
-    from_c: bool,
+    lent: Lent,
     counters: &mut [u8],
     slots: &mut [u32],
     message: &[u8],
     hops: &[u32],
 ) {
-    if from_c {
+    if lent.from_c {
+        let list = list_of(t);
+        let values = bytes_lent(lent.values, &list);
         digits(gateway::gateway_update(
             t.k,
-            t.d,
+            &list[..values],
             t.e,
             t.s,
             t.a,
@@ -631,13 +679,13 @@ fn update(
 // Reads a message, and shows what the memory then holds.
 fn read(
     t: Settings,
-    from_c: bool,
+    lent: Lent,
     counters: &mut [u8],
     slots: &mut [u32],
     message: &[u8],
     hops: &[u32],
 ) {
-    update(t, from_c, counters, slots, message, hops);
+    update(t, lent, counters, slots, message, hops);
     sum_of_bytes(counters);
     sum_of_words(slots);
 }
@@ -666,35 +714,40 @@ fn show_room(room: &[u8]) {
 // Reads as many bytes of the room as were lent.
 fn read_room(
     t: Settings,
-    from_c: bool,
+    lent: Lent,
     counters: &mut [u8],
     slots: &mut [u32],
     room: &[u8],
-    lent: usize,
+    size: usize,
 ) {
-    let end = bytes_lent(lent, room);
-    read(t, from_c, counters, slots, &room[..end], &[]);
+    let end = bytes_lent(size, room);
+    read(t, lent, counters, slots, &room[..end], &[]);
 }
 
 fn show_written(
     t: Settings,
-    from_c: bool,
+    lent: Lent,
     counters: &mut [u8],
     slots: &mut [u32],
     room: &[u8; 32],
-    lent: usize,
+    size: usize,
 ) {
     show_room(room);
-    read_room(t, from_c, counters, slots, room, lent);
+    read_room(t, lent, counters, slots, room, size);
 }
 
 // Writes a withdrawal, and reads it.
-fn write(t: Settings, from_c: bool, counters: &mut [u8], slots: &mut [u32], case: u64) {
+fn write(t: Settings, lent: Lent, counters: &mut [u8], slots: &mut [u32], case: u64) {
     let mut room = [0xaau8; 32];
-    let lent = hop_of(case) as usize;
-    let end = bytes_lent(lent, &room);
-    write_room(from_c, prefix_of(case), length_of(case), &mut room[..end]);
-    show_written(t, from_c, counters, slots, &room, lent);
+    let size = hop_of(case) as usize;
+    let end = bytes_lent(size, &room);
+    write_room(
+        lent.from_c,
+        prefix_of(case),
+        length_of(case),
+        &mut room[..end],
+    );
+    show_written(t, lent, counters, slots, &room, size);
 }
 
 // Puts four bytes into the message, the highest of the number first.
@@ -709,7 +762,7 @@ fn put_bytes(message: &mut [u8], bytes: u32, place: u32) {
 // Reads so much of the message, in which one byte is otherwise for this time.
 fn read_patched(
     t: Settings,
-    from_c: bool,
+    lent: Lent,
     counters: &mut [u8],
     slots: &mut [u32],
     message: &mut [u8],
@@ -721,7 +774,7 @@ fn read_patched(
     put_byte(message, place, (case / 0x1000_0000_0000 % 0x100) as u8);
     let end = bytes_lent((case / 0x100_0000 % 0x10_0000) as usize, message);
     let count = words_lent((case % 0x100_0000) as usize, hops);
-    read(t, from_c, counters, slots, &message[..end], &hops[..count]);
+    read(t, lent, counters, slots, &message[..end], &hops[..count]);
     put_byte(message, place, before);
 }
 
@@ -735,7 +788,7 @@ fn show_lists(message: &[u8], hops: &[u32], bytes: u32, words: u32) {
 // A case over the memory that is lent for it.
 fn call(
     t: Settings,
-    from_c: bool,
+    lent: Lent,
     counters: &mut [u8],
     slots: &mut [u32],
     message: &mut [u8],
@@ -754,9 +807,9 @@ fn call(
     } else if what == BYTES {
         put_bytes(message, p, hop);
     } else if what == READ {
-        read_patched(t, from_c, counters, slots, message, hops, case);
+        read_patched(t, lent, counters, slots, message, hops, case);
     } else if what == WRITE {
-        write(t, from_c, counters, slots, case);
+        write(t, lent, counters, slots, case);
     } else if what == HOP {
         put_word(hops, place, p);
     } else if what == LISTS {
@@ -782,13 +835,28 @@ fn call_lent(
     let words = words_lent(lent.words, slots);
     call(
         t,
-        lent.from_c,
+        lent,
         &mut counters[..bytes],
         &mut slots[..words],
         message,
         hops,
         case,
     );
+}
+
+// A case and what it writes.
+fn line(
+    t: Settings,
+    lent: Lent,
+    counters: &mut [u8],
+    slots: &mut [u32],
+    message: &mut [u8],
+    hops: &mut [u32],
+    case: u64,
+) {
+    begin(case);
+    call_lent(t, lent, counters, slots, message, hops, case);
+    end();
 }
 
 // The cases of a list, one after the other over the same memory.
@@ -801,7 +869,7 @@ fn run(
 ) {
     let mut t = Settings {
         k: 0,
-        d: 0,
+        d: [0; 32],
         e: 0,
         s: 0,
         a: 0,
@@ -810,6 +878,7 @@ fn run(
     };
     let mut lent = Lent {
         counters: 0,
+        values: 0,
         words: 0,
         from_c: false,
     };
@@ -818,9 +887,7 @@ fn run(
         let case = cases[i];
         t = set(t, case);
         lent = lend(lent, case);
-        begin(case);
-        call_lent(t, lent, counters, slots, message, hops, case);
-        end();
+        line(t, lent, counters, slots, message, hops, case);
         i += 1;
     }
 }

@@ -11,6 +11,8 @@ call-lent-spec =
     (λ c κs. search needs)
     (λ c κs. search needs)
     (λ c κs. search needs)
+    (λ c κs. search needs)
+    (λ c. search (needs, length-take-le))
     (λ c. search needs)
     (λ c. search (needs, length-take-le))
     (λ c. search needs)

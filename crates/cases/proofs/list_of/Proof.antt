@@ -1,18 +1,17 @@
 -- What is asked of the numbers is linear.
 use Prim.Native.Nat.{_-_, _≤_}
-use lib.ListN.{length}
 use borrow.Author.Needs.{needs}
-use Rattle.cases.proofs.sum_of_slots.Statement.{statement}
-use Rattle.cases.proofs.sum_of_slots.Tie as tie
+use Rattle.cases.proofs.list_of.Statement.{statement}
+use Rattle.cases.proofs.list_of.Tie as tie
 
 abbrev Inv-loop : tie.InvT-loop
-Inv-loop slots sum₀ i₀ sum i = i ≤ length slots
+Inv-loop t list₀ i₀ list i = i ≤ 32
 
 abbrev μ-loop : tie.MeasureT-loop
-μ-loop slots sum₀ i₀ sum i = length slots - i
+μ-loop t list₀ i₀ list i = 32 - i
 
-pub sum-of-slots-spec : {M : Type 1} → statement M
-sum-of-slots-spec =
+pub list-of-spec : {M : Type 1} → statement M
+list-of-spec =
     tie.close
     (tie.spec
     Inv-loop
@@ -20,7 +19,6 @@ sum-of-slots-spec =
     (λ c. search needs)
     (λ c. search needs)
     (λ c. search needs)
-    (λ c κs. search needs)
     (λ c. search needs)
     (λ c. search needs)
     (λ c. search needs)
