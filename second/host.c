@@ -5,11 +5,11 @@
  *
  *     host FILE SIZE
  *
- * A request is sixteen numbers of 64 bits: the call, k, d, e, s, a, b, c, where the counters begin in
- * the file and how many are lent, the same of the slots, then what the call has beside them: for a list
- * where its addresses begin and how many bytes they have, and the same of its results; for a message the
- * same of its bytes and of the words of its next hops; for a withdrawal to be written prefix and length, and
- * the same of its room. An answer is one such number.
+ * A request is seventeen numbers of 64 bits: the call, k, where the values of d begin in the file and how
+ * many are lent, e, s, a, b, c, where the counters begin and how many are lent, the same of the slots, then
+ * what the call has beside them: for a list where its addresses begin and how many bytes they have, and the
+ * same of its results; for a message the same of its bytes and of the words of its next hops; for a
+ * withdrawal to be written prefix and length, and the same of its room. An answer is one such number.
  */
 #define _XOPEN_SOURCE 600
 
@@ -26,7 +26,7 @@
 
 enum { CLEAR, ADD, WITHDRAW, CHANGE, VECTOR, LOOKUP, LOOKUP_LIST, UPDATE, WRITE_WITHDRAWAL };
 
-enum { NUMBERS = 16, SECONDS_TO_END = 20, CALLS_BETWEEN = 256 };
+enum { NUMBERS = 17, SECONDS_TO_END = 20, CALLS_BETWEEN = 256 };
 
 static void fail(const char *what)
 {
@@ -34,27 +34,27 @@ static void fail(const char *what)
     exit(2);
 }
 
+#define SETTINGS k, memory + n[2], n[3], e, s, a, b, c
+#define WORDS SETTINGS, counters, n[10], (uint32_t *)(void *)slots, n[12]
+#define BYTES SETTINGS, counters, n[10], slots, n[12]
+
 static uint64_t answer(uint8_t *memory, const uint64_t n[NUMBERS])
 {
-    const uint32_t k = (uint32_t)n[1], d = (uint32_t)n[2], e = (uint32_t)n[3], s = (uint32_t)n[4],
-                   a = (uint32_t)n[5], b = (uint32_t)n[6], c = (uint32_t)n[7];
-    uint8_t *counters = memory + n[8], *bytes = memory + n[10];
-    uint32_t *words = (uint32_t *)(void *)bytes;
-    const uint32_t asked = (uint32_t)n[12], length = (uint32_t)n[13], hop = (uint32_t)n[14];
+    const uint32_t k = (uint32_t)n[1], e = (uint32_t)n[4], s = (uint32_t)n[5], a = (uint32_t)n[6],
+                   b = (uint32_t)n[7], c = (uint32_t)n[8];
+    uint8_t *counters = memory + n[9], *slots = memory + n[11];
+    const uint32_t asked = (uint32_t)n[13], length = (uint32_t)n[14], hop = (uint32_t)n[15];
     switch (n[0]) {
-    case CLEAR: return gateway_clear(k, d, e, s, a, b, c, counters, n[9], words, n[11]);
-    case ADD: return gateway_add(k, d, e, s, a, b, c, counters, n[9], words, n[11], asked, length, hop);
-    case WITHDRAW: return gateway_withdraw(k, d, e, s, a, b, c, counters, n[9], words, n[11], asked, length);
-    case CHANGE: return gateway_change(k, d, e, s, a, b, c, counters, n[9], words, n[11], asked, length, hop);
-    case VECTOR: return gateway_match_vector(k, d, e, s, a, b, c, counters, n[9], bytes, n[11], asked);
-    case LOOKUP: return gateway_lookup(k, d, e, s, a, b, c, counters, n[9], bytes, n[11], asked);
-    case LOOKUP_LIST:
-        return gateway_lookup_list(k, d, e, s, a, b, c, counters, n[9], bytes, n[11], memory + n[12], n[13],
-                                   memory + n[14], n[15]);
+    case CLEAR: return gateway_clear(WORDS);
+    case ADD: return gateway_add(WORDS, asked, length, hop);
+    case WITHDRAW: return gateway_withdraw(WORDS, asked, length);
+    case CHANGE: return gateway_change(WORDS, asked, length, hop);
+    case VECTOR: return gateway_match_vector(BYTES, asked);
+    case LOOKUP: return gateway_lookup(BYTES, asked);
+    case LOOKUP_LIST: return gateway_lookup_list(BYTES, memory + n[13], n[14], memory + n[15], n[16]);
     case UPDATE:
-        return gateway_update(k, d, e, s, a, b, c, counters, n[9], words, n[11], memory + n[12], n[13],
-                              (const uint32_t *)(void *)(memory + n[14]), n[15]);
-    case WRITE_WITHDRAWAL: return gateway_write_withdrawal(asked, length, memory + n[14], n[15]);
+        return gateway_update(WORDS, memory + n[13], n[14], (const uint32_t *)(void *)(memory + n[15]), n[16]);
+    case WRITE_WITHDRAWAL: return gateway_write_withdrawal(asked, length, memory + n[15], n[16]);
     default: errno = EINVAL; fail("an unknown call"); return 0;
     }
 }

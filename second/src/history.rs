@@ -1,16 +1,18 @@
 //! Random histories. A seed and a number fix a history, so that a failing one can be replayed.
 
-use crate::calls::{AnyCall, Call, Lent, Message, Settings};
+use crate::calls::{AnyCall, Call, Lent, Message, Settings, Sizes};
 use crate::library::{Area, Library, MARGIN};
+use crate::other_sizes::{self, Kind, KINDS};
 use crate::pair::{Difference, Pair};
 use crate::random::Random;
 use crate::random_lists;
 use crate::random_messages::{self, Source};
+use crate::random_sizes;
 use crate::replacing;
 use crate::routes::Routes;
 use crate::rules;
 use crate::slips::Slip;
-use crate::tally::Tally;
+use crate::tally::{Tally, WITH_SETTINGS};
 use crate::told::{told, Answer};
 use std::fmt;
 
@@ -49,6 +51,13 @@ const TALKATIVE: u64 = 8;
 const TALKATIVE_MESSAGES: usize = 500;
 const TALKATIVE_WRITINGS: usize = 100;
 
+/// So many calls of a history have a list of sizes, or counters, that are others than its table's. Over the
+/// histories each of the calls has each kind of them in turn.
+const OTHER_SIZES: usize = 16;
+
+/// So many histories of a hundred begin with a route of each length.
+const EVERY_LENGTH: usize = 40;
+
 /// How the history runs: what is got wrong on purpose, and whether each call is shown.
 #[derive(Clone, Copy)]
 pub struct Manner {
@@ -66,6 +75,10 @@ struct History<'a> {
     adds: usize,
     messages: usize,
     writings: usize,
+    /// Which of the calls with other sizes is next.
+    other_sizes: usize,
+    /// The lengths of which a route was added after the clear, the lowest bit for length 1.
+    lengths: u32,
     made: u64,
 }
 
@@ -79,22 +92,26 @@ pub fn run(
 ) -> Result<(), Failure> {
     let mut random = Random::new(seed, history);
     let crowded = random.percent(CROWDED);
-    let t = settings(&mut random, crowded);
-    let pool = pool(&mut random, crowded);
+    let few = [random.within(0, 32), random.within(1, 32), random.pick(&[1, 8, 24, 32])];
+    let t = settings(&mut random, crowded, &few);
+    let pool = pool(&mut random, crowded, &few);
     let adds = random.pick(&[35, 50, 65, 80]);
     let (messages, writings) = match history % TALKATIVE {
         0 => (TALKATIVE_MESSAGES, TALKATIVE_WRITINGS),
         _ => (MESSAGES, WRITINGS),
     };
     tally.histories += 1;
-    History { library, random, manner, tally, t, pool, adds, messages, writings, made: 0 }.run()
+    let other_sizes = history as usize % (WITH_SETTINGS * KINDS.len()) * OTHER_SIZES;
+    let (lengths, made) = (0, 0);
+    History { library, random, manner, tally, t, pool, adds, messages, writings, other_sizes, lengths, made }
+        .run()
 }
 
 /// Settings over their whole ranges, the small tables oftener.
-fn settings(random: &mut Random, crowded: bool) -> Settings {
-    let mut t = most_settings(random);
+fn settings(random: &mut Random, crowded: bool, few: &[u32]) -> Settings {
+    let mut t = most_settings(random, few);
     if random.percent(2) {
-        (t.d, t.e, t.s) = (11, 8, 8);
+        (t.d, t.e, t.s) = (Sizes::equal(11), 8, 8);
     }
     if crowded {
         // Every step lands on position 0: five routes of a length, or three, bring its counter to 15.
@@ -103,14 +120,9 @@ fn settings(random: &mut Random, crowded: bool) -> Settings {
     t
 }
 
-fn most_settings(random: &mut Random) -> Settings {
+fn most_settings(random: &mut Random, few: &[u32]) -> Settings {
     let k = if random.percent(40) { random.pick(&[1, 8]) } else { random.within(1, 8) };
-    let d = match random.below(100) {
-        0..=54 => 4,
-        55..=74 => random.within(5, 6),
-        75..=94 => random.within(7, 10),
-        _ => 11,
-    };
+    let d = random_sizes::sizes(random, few);
     let e = match random.below(100) {
         0..=34 => 0,
         35..=79 => random.within(1, 3),
@@ -134,14 +146,13 @@ fn multiplier(random: &mut Random) -> u32 {
 }
 
 /// The routes that a history is about: prefixes with their lengths, some within others.
-fn pool(random: &mut Random, crowded: bool) -> Vec<(u32, u32)> {
-    let few = [random.within(0, 32), random.within(1, 32), random.pick(&[1, 8, 24, 32])];
+fn pool(random: &mut Random, crowded: bool, few: &[u32]) -> Vec<(u32, u32)> {
     let every = !crowded && random.percent(50);
     let narrow = random.percent(35);
     let many = if random.percent(2) { MOST_ROUTES } else { random.pick(&[3, 8, 20, 60, 200, 1000]) };
     let mut pool: Vec<(u32, u32)> = Vec::with_capacity(many);
     for _ in 0..many {
-        let length = if every { random.within(0, 32) } else { random.pick(&few) };
+        let length = if every { random.within(0, 32) } else { random.pick(few) };
         let address = if narrow {
             random.word() & 0xe000_0007
         } else if !pool.is_empty() && random.percent(60) {
@@ -188,6 +199,9 @@ impl History<'_> {
         if damaged_from > 0 {
             self.call(&mut pair, Call::Clear)?;
             pair.routes = Some(Routes::new(self.t, self.manner.slip));
+            if self.random.percent(EVERY_LENGTH) {
+                self.add_every_length(&mut pair)?;
+            }
         }
         for made in 0..calls {
             if made == damaged_from {
@@ -197,6 +211,9 @@ impl History<'_> {
                 self.damage(&mut pair);
             }
             let damaged = made > damaged_from;
+            if made % (calls / OTHER_SIZES) == 0 {
+                self.other_sizes_calls(&mut pair, damaged)?;
+            }
             let chance = self.random.below(1000);
             if chance < LISTS + self.messages + self.writings {
                 match chance {
@@ -223,6 +240,7 @@ impl History<'_> {
         if damaged_from == calls {
             self.rebuild(&mut pair)?;
         }
+        self.tally.count_history(&self.t.d, self.lengths);
         Ok(())
     }
 
@@ -276,8 +294,14 @@ impl History<'_> {
         if self.manner.show {
             say!("  {}", Answer::to(call, answer));
         }
-        let counted = self.tally.count(call, answer);
+        let kinds = other_sizes::met(&self.t, pair.lent(call), t, lent);
+        let counted = self.tally.count(call, kinds, answer);
         counted.map_err(|difference| self.failure(t, lent, call, difference))?;
+        if let (AnyCall::One(Call::Add { length: length @ 1.., .. }), 0, true) =
+            (call, answer, pair.routes.is_some())
+        {
+            self.lengths |= 1 << (length - 1);
+        }
         if let (0, Some(met)) = (answer, met) {
             self.tally.count_replacing(met, pair.routes.is_none());
         }
@@ -300,6 +324,18 @@ impl History<'_> {
         difference: Difference,
     ) -> Failure {
         Failure { number: self.made, what: told(t, lent, call), difference: difference.0 }
+    }
+
+    /// Adds a route of each length, each within the one before it or anywhere.
+    fn add_every_length(&mut self, pair: &mut Pair) -> Result<(), Failure> {
+        let (mut address, within) = (self.random_address(), self.random.percent(50));
+        for length in 1..=32 {
+            if !within {
+                address = self.random.word();
+            }
+            self.call(pair, Call::Add { prefix: rules::prefix(length, address), length, hop: length })?;
+        }
+        Ok(())
     }
 
     fn random_call(&mut self, pair: &Pair) -> Call {
@@ -404,6 +440,43 @@ impl History<'_> {
         Ok(())
     }
 
+    /// A call whose list of sizes, or whose counters, are others than the table's own. Only a damaged table sees
+    /// another list that passes.
+    fn other_sizes_calls(&mut self, pair: &mut Pair, damaged: bool) -> Result<(), Failure> {
+        let call = self.other_sizes % WITH_SETTINGS;
+        let kind = KINDS[self.other_sizes / WITH_SETTINGS % KINDS.len()];
+        self.other_sizes += 1;
+        if kind != Kind::SameSum {
+            self.other_sizes_call(pair, call, kind)?;
+        }
+        if damaged {
+            self.other_sizes_call(pair, call, Kind::SameSum)?;
+        }
+        Ok(())
+    }
+
+    /// One of the calls that have settings, by its number.
+    fn other_sizes_call(&mut self, pair: &mut Pair, call: usize, kind: Kind) -> Result<(), Failure> {
+        let (prefix, length) = self.stored_or_of_pool(pair);
+        let (address, hop) = (self.random_address(), self.random.pick(&HOPS));
+        let list = random_lists::list(&mut self.random, |_| address);
+        let message = random_messages::message(&mut self.random, &source(&self.pool, pair), false);
+        let call = match call {
+            0 => AnyCall::One(Call::Clear),
+            1 => AnyCall::One(Call::Add { prefix, length, hop }),
+            2 => AnyCall::One(Call::Withdraw { prefix, length }),
+            3 => AnyCall::One(Call::Change { prefix, length, hop }),
+            4 => AnyCall::One(Call::Vector { address }),
+            5 => AnyCall::One(Call::Lookup { address }),
+            6 => AnyCall::List(&list),
+            _ => AnyCall::Message(&message),
+        };
+        let (mut t, mut lent) = (self.t, pair.lent(call));
+        other_sizes::make(&mut self.random, kind, &mut t, &mut lent);
+        self.call_with(pair, &t, lent, call)?;
+        Ok(())
+    }
+
     /// The message that withdraws a route; what was written is then a message too.
     fn write(&mut self, pair: &mut Pair) -> Result<(), Failure> {
         let writing = random_messages::writing(&mut self.random, &source(&self.pool, pair));
@@ -422,7 +495,7 @@ impl History<'_> {
     fn spoil_table(&mut self, right: Lent, t: &mut Settings, lent: &mut Lent) -> bool {
         match self.random.below(5) {
             0 => self.spoil_settings(t),
-            1 => lent.counters = self.spoil_size(right.counters),
+            1 => lent.counters = self.spoil_counters(right.counters),
             2 => lent.slots = self.spoil_size(right.slots),
             _ => return false,
         }
@@ -432,9 +505,19 @@ impl History<'_> {
     fn spoil_settings(&mut self, t: &mut Settings) {
         match self.random.below(4) {
             0 => t.k = self.random.pick(&[0, 9, 257, u32::MAX]),
-            1 => t.d = self.random.pick(&[0, 3, 12, 32, 36, u32::MAX]),
+            1 => other_sizes::spoil(&mut self.random, t),
             2 => t.e = self.random.pick(&[9, 32, 33, 64, u32::MAX]),
             _ => t.s = self.random.pick(&[0, 9, 256, u32::MAX]),
+        }
+    }
+
+    /// As below, or by as many as one of the filters has.
+    fn spoil_counters(&mut self, size: usize) -> usize {
+        let filter = 1 << self.random.pick(self.t.d.values());
+        match self.random.below(10) {
+            0 => size + filter,
+            1 => size - filter,
+            _ => self.spoil_size(size),
         }
     }
 
@@ -470,10 +553,11 @@ impl History<'_> {
     /// Other settings that ask for the same memory. Only damaged tables see them.
     fn other_settings(&mut self) -> Settings {
         let mut t = self.t;
-        match self.random.below(4) {
+        match self.random.below(5) {
             0 => t.k = self.random.within(1, 8),
             1 => t.a = multiplier(&mut self.random),
             2 => t.c = multiplier(&mut self.random),
+            3 => t.d = other_sizes::same_sum(&mut self.random, &t.d),
             _ if t.s & 1 == 0 && t.e < 8 => (t.e, t.s) = (t.e + 1, t.s / 2),
             _ if t.s < 5 && t.e > 0 => (t.e, t.s) = (t.e - 1, t.s * 2),
             _ => t.b = multiplier(&mut self.random),
@@ -500,7 +584,7 @@ impl History<'_> {
         }
         if self.random.percent(50) {
             let step = self.random.below(self.t.k as usize);
-            let position = rules::positions(&self.t, prefix)[step];
+            let position = rules::positions(&self.t, length, prefix)[step];
             return pair.damage_counter(
                 self.library,
                 rules::counter_at(&self.t, length, position),

@@ -2,7 +2,7 @@
 //! the same memory, so that what the library writes is seen here, and a call that brings that process
 //! down is told as any other difference.
 
-use crate::calls::{AnyCall, Call, Lent, Settings, Writing};
+use crate::calls::{AnyCall, Call, Lent, Settings, Sizes, Writing};
 use std::fs::{self, File, OpenOptions};
 use std::io::{self, Read, Write};
 use std::os::fd::AsRawFd;
@@ -13,8 +13,10 @@ use std::process::{Child, ChildStdin, ChildStdout, Command, Stdio};
 /// slots, that nothing may touch. They leave room for a call that is told of more memory than its table has.
 pub const MARGIN: usize = 64;
 
-/// Room for the counters, and for the slots in words, of the largest table.
-const MOST_COUNTERS: usize = 32 * (1 << 11) + 2 * MARGIN;
+/// Room for the counters of more filters than a table has, each of the largest size, and for the slots in words
+/// of the largest table.
+pub const MOST_LENT_COUNTERS: usize = 40 * (1 << 11);
+const MOST_COUNTERS: usize = MOST_LENT_COUNTERS + 2 * MARGIN;
 const MOST_SLOTS: usize = 64 * (1 << 8) * 8 + 1 + 2 * MARGIN;
 
 /// One table's counters and then its slots.
@@ -27,9 +29,10 @@ pub const MOST_LISTED: usize = 5000;
 pub const MOST_MESSAGE: usize = 65_536 + 4096;
 pub const MOST_HOPS: usize = 65_536 + 512;
 
-/// What a call is lent beside its table.
+/// What a call is lent beside its table: the list of the filters' sizes, and what else it has.
 #[derive(Clone, Copy)]
 pub enum Beside {
+    Sizes,
     Addresses,
     Results,
     Message,
@@ -51,6 +54,13 @@ pub enum Area {
     Old,
     New,
     Unaligned,
+}
+
+/// How many bytes after their place the slots and the list of sizes begin.
+#[derive(Clone, Copy, Default)]
+pub struct Offsets {
+    pub slots: usize,
+    pub sizes: usize,
 }
 
 pub struct Library {
@@ -101,8 +111,9 @@ impl Library {
         let answers = host.stdout.take().ok_or_else(missing)?;
         let mut library = Library { host, requests: Some(requests), answers, memory, ended: false };
         // The first answer shows that the host has mapped the file, whose name can then go.
-        let out_of_range = Settings { k: 0, d: 0, e: 0, s: 0, a: 0, b: 0, c: 0 };
-        let refused = library.call(Area::Old, &out_of_range, Lent { counters: 0, slots: 0 }, Call::Clear)?;
+        let out_of_range = Settings { k: 0, d: Sizes::of(&[]), e: 0, s: 0, a: 0, b: 0, c: 0 };
+        let nothing = Lent { counters: 0, slots: 0 };
+        let refused = library.call(Area::Old, Offsets::default(), &out_of_range, nothing, Call::Clear)?;
         if refused != 1 << 48 {
             return Err(io::Error::other(format!("a call with K = 0 was answered with {refused:#x}")));
         }
@@ -149,24 +160,13 @@ impl Library {
     pub fn call<'a>(
         &mut self,
         area: Area,
-        t: &Settings,
-        lent: Lent,
-        call: impl Into<AnyCall<'a>>,
-    ) -> io::Result<u64> {
-        self.call_at(area, 0, t, lent, call)
-    }
-
-    /// Does a call on slots that begin so many bytes after their place.
-    pub fn call_at<'a>(
-        &mut self,
-        area: Area,
-        offset: usize,
+        offsets: Offsets,
         t: &Settings,
         lent: Lent,
         call: impl Into<AnyCall<'a>>,
     ) -> io::Result<u64> {
         let call = call.into();
-        assert!(lent.counters + MARGIN <= MOST_COUNTERS);
+        assert!(lent.counters <= MOST_LENT_COUNTERS);
         assert!(lent.slots.div_ceil(call.units()) + MARGIN <= MOST_SLOTS);
         let (number, beside) = match call {
             AnyCall::One(call) => numbers(call),
@@ -186,10 +186,12 @@ impl Library {
             }
         };
         let counters = area as usize * AREA + MARGIN;
-        let slots = area as usize * AREA + MOST_COUNTERS + 4 * MARGIN + offset;
-        let settings = [t.k, t.d, t.e, t.s, t.a, t.b, t.c].map(u64::from);
+        let slots = area as usize * AREA + MOST_COUNTERS + 4 * MARGIN + offsets.slots;
+        let sizes = [place(Beside::Sizes, MARGIN + offsets.sizes), t.d.values().len()].map(|n| n as u64);
+        let others = [t.e, t.s, t.a, t.b, t.c].map(u64::from);
         let memory = [counters, lent.counters, slots, lent.slots].map(|n| n as u64);
-        let mut request = [0; 128];
+        let mut request = [0; 136];
+        let settings = [u64::from(t.k)].into_iter().chain(sizes).chain(others);
         let numbers = [number].into_iter().chain(settings).chain(memory).chain(beside);
         for (bytes, number) in request.chunks_exact_mut(8).zip(numbers) {
             bytes.copy_from_slice(&number.to_ne_bytes());

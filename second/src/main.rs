@@ -24,6 +24,7 @@ mod lines;
 mod lists;
 mod message_tally;
 mod messages;
+mod other_sizes;
 mod pair;
 mod places;
 mod program;
@@ -31,6 +32,7 @@ mod random;
 mod random_lines;
 mod random_lists;
 mod random_messages;
+mod random_sizes;
 mod reading;
 mod recorded;
 mod replacing;
@@ -43,6 +45,7 @@ mod text;
 mod told;
 mod worked;
 mod worked_messages;
+mod worked_sizes;
 mod writing;
 
 use history::Manner;
@@ -74,8 +77,8 @@ library; it is the host beside this one unless told.";
 /// How many lines are compared unless told.
 const LINES: u64 = 6000;
 
-/// From so many calls on, a run must have met every refusal, all that adds of stored prefixes can meet, and
-/// what messages can be and have wrong about them.
+/// From so many calls on, a run must have met every refusal, all that adds of stored prefixes can meet, what
+/// messages can be and have wrong about them, and in each call all that can be other about the filters' sizes.
 const MANY_CALLS: u64 = 100_000;
 
 /// A slip that so many histories do not show is not found.

@@ -2,7 +2,7 @@
 //! answers and all of the memory are compared after it.
 
 use crate::calls::{AnyCall, Call, Lent, List, Message, Settings, Writing};
-use crate::library::{Area, Beside, Library, MARGIN};
+use crate::library::{Area, Beside, Library, Offsets, MARGIN};
 use crate::lists::answer_list;
 use crate::messages::{read, read_message, write_withdrawal, Said};
 use crate::places::{bytes_of, places, Place};
@@ -19,6 +19,8 @@ pub struct Pair {
     /// This program's own memory, with its margins.
     counters: Vec<u8>,
     slots: Vec<u32>,
+    /// How many bytes after a word's address the list of sizes begins; each call has another one.
+    sizes_offset: usize,
     /// The stored routes, where the history began with a clear.
     pub routes: Option<Routes>,
     slip: Option<Slip>,
@@ -53,7 +55,7 @@ impl Pair {
         let slots: Vec<u32> = (0..slot_words(&t) + 2 * MARGIN).map(|_| word()).collect();
         library.counters(area, counters.len()).copy_from_slice(&counters);
         library.slots(area, slots.len()).copy_from_slice(&slots);
-        Pair { t, area, counters, slots, routes: None, slip }
+        Pair { t, area, counters, slots, sizes_offset: 0, routes: None, slip }
     }
 
     /// What this table's calls lend.
@@ -134,7 +136,7 @@ impl Pair {
         let hops_offset = 4 * message.hops_offset;
         library.beside(Beside::Message, message.offset, bytes.len()).copy_from_slice(&bytes);
         library.beside(Beside::Hops, hops_offset, hops.len()).copy_from_slice(&hops);
-        let theirs = library.call(self.area, t, lent, message)?;
+        let theirs = self.call_library(library, self.area, 0, t, lent, message)?;
         let (counters, slots) = (&mut self.counters[MARGIN..], &mut self.slots[MARGIN..]);
         let ours = read_message(t, counters, slots, lent, &message.bytes, &message.hops, self.slip);
         same("answer", Answer::to(message, theirs), Answer::to(message, ours))?;
@@ -148,12 +150,13 @@ impl Pair {
 
     /// Writes the message that withdraws a route in both, and compares. What is written must be read as that
     /// one withdrawal.
-    pub fn write(&self, library: &mut Library, writing: &Writing) -> Result<u64, Difference> {
+    pub fn write(&mut self, library: &mut Library, writing: &Writing) -> Result<u64, Difference> {
         let Writing { prefix, length, room, offset } = writing;
         let lent_room = MARGIN..MARGIN + room.len();
         let mut room = with_margins(room);
         library.beside(Beside::Room, *offset, room.len()).copy_from_slice(&room);
-        let theirs = library.call(self.area, &self.t, self.lent(writing), writing)?;
+        let (t, lent) = (self.t, self.lent(writing));
+        let theirs = self.call_library(library, self.area, 0, &t, lent, writing)?;
         let ours = write_withdrawal(*prefix, *length, &mut room[lent_room], self.slip);
         same("answer", Answer::to(writing, theirs), Answer::to(writing, ours))?;
         compare_lent("room byte", library.beside(Beside::Room, *offset, room.len()), &room)?;
@@ -164,6 +167,26 @@ impl Pair {
             return Err(Difference("what is written is not read as that one withdrawal".to_string()));
         }
         Ok(theirs)
+    }
+
+    /// Does a call in the library, on slots that begin so many bytes after their place. The list of sizes is
+    /// lent with it, and must stay as it is.
+    fn call_library<'a>(
+        &mut self,
+        library: &mut Library,
+        area: Area,
+        offset: usize,
+        t: &Settings,
+        lent: Lent,
+        call: impl Into<AnyCall<'a>>,
+    ) -> Result<u64, Difference> {
+        self.sizes_offset = (self.sizes_offset + 1) % 4;
+        let sizes = with_margins(t.d.values());
+        library.beside(Beside::Sizes, self.sizes_offset, sizes.len()).copy_from_slice(&sizes);
+        let offsets = Offsets { slots: offset, sizes: self.sizes_offset };
+        let answer = library.call(area, offsets, t, lent, call)?;
+        compare_lent("value of D", library.beside(Beside::Sizes, self.sizes_offset, sizes.len()), &sizes)?;
+        Ok(answer)
     }
 
     /// Does a call in an area whose slots begin so many bytes after their place, and in this program's own
@@ -177,7 +200,7 @@ impl Pair {
         lent: Lent,
         call: Call,
     ) -> Result<u64, Difference> {
-        let theirs = library.call_at(area, offset, t, lent, call)?;
+        let theirs = self.call_library(library, area, offset, t, lent, call)?;
         let (counters, slots) = (&mut self.counters[MARGIN..], &mut self.slots[MARGIN..]);
         let ours = rules::answer(t, counters, slots, lent, call, self.slip);
         same("answer", Answer::to(call, theirs), Answer::to(call, ours))?;
@@ -198,7 +221,7 @@ impl Pair {
         let (addresses_offset, results_offset) = (list.addresses_offset, list.results_offset);
         library.beside(Beside::Addresses, addresses_offset, addresses.len()).copy_from_slice(&addresses);
         library.beside(Beside::Results, results_offset, results.len()).copy_from_slice(&results);
-        let answer = library.call_at(area, offset, t, lent, list)?;
+        let answer = self.call_library(library, area, offset, t, lent, list)?;
         let (counters, slots) = (&mut self.counters[MARGIN..], &mut self.slots[MARGIN..]);
         let lent_results = MARGIN..MARGIN + list.results.len();
         let own = &mut results[lent_results.clone()];
@@ -291,7 +314,7 @@ impl Pair {
 
     /// Holds the first, the middle and the last answer of a list to lookups of the library.
     fn compare_lookups(
-        &self,
+        &mut self,
         library: &mut Library,
         t: &Settings,
         lent: Lent,
@@ -301,7 +324,7 @@ impl Pair {
         some.dedup();
         for place in some.into_iter().filter_map(|at| places.get(at)) {
             let call = Call::Lookup { address: place.address };
-            let number = library.call(self.area, t, lent, call)?;
+            let number = self.call_library(library, self.area, 0, t, lent, call)?;
             same(&format!("refusal of a lookup of {}", dotted(place.address)), number >> 48, 0)?;
             place.same("a lookup", Parts::of_number(number))?;
         }
@@ -313,8 +336,10 @@ impl Pair {
         let Some(routes) = &self.routes else {
             return Ok(());
         };
-        let counters = &self.counters[MARGIN..MARGIN + counter_bytes(&self.t)];
-        for (length, filter) in (1..).zip(counters.chunks(1 << self.t.d)) {
+        let mut counters = &self.counters[MARGIN..MARGIN + counter_bytes(&self.t)];
+        for (length, d) in (1..).zip(self.t.d.values()) {
+            let (filter, after) = counters.split_at(1 << d);
+            counters = after;
             let sum = filter.iter().map(|counter| usize::from(*counter)).sum::<usize>();
             same(&format!("sum of the counters of length {length}"), sum, routes.counted(length))?;
         }

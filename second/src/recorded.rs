@@ -1,15 +1,16 @@
 //! Messages that were recorded from real daemons, each with the reading that other programs gave of it: they
 //! are read here and done by the library, one after the other on one table.
 
-use crate::calls::{Call, Message, Settings};
+use crate::calls::{Call, Message, Settings, Sizes};
 use crate::library::{Area, Library};
 use crate::messages::{read, Said};
 use crate::pair::{Difference, Pair};
 use crate::routes::Routes;
 use std::fs;
 
-/// A table that takes all of their routes.
-const TABLE: Settings = Settings { k: 4, d: 7, e: 3, s: 8, a: 0xc2b2_ae3d, b: 0x85eb_ca77, c: 0x9e37_79b1 };
+/// A table that takes all of their routes, with filters all of one size.
+const TABLE: Settings =
+    Settings { k: 4, d: Sizes::equal(7), e: 3, s: 8, a: 0xc2b2_ae3d, b: 0x85eb_ca77, c: 0x9e37_79b1 };
 
 /// One message of the file.
 #[derive(Default)]
@@ -28,33 +29,63 @@ pub fn compare(library: &mut Library, file: &str) -> Result<String, String> {
     for message in &recorded {
         compare_reading(message).map_err(|what| format!("{file}, {}: {what}", message.name))?;
     }
-    let mut pair = Pair::new(library, Area::Old, TABLE, None, || 7, || 7);
-    let wrong = |name: &str, Difference(what): Difference| format!("{file}, {name}: {what}");
-    let lent = pair.lent(Call::Clear);
-    pair.call(library, &TABLE, lent, Call::Clear).map_err(|difference| wrong("clear", difference))?;
-    pair.routes = Some(Routes::new(TABLE, None));
-    let hops: Vec<u32> = recorded.iter().filter_map(|message| message.said.next_hop).collect();
-    let (mut accepted, mut refused) = (0, 0);
-    for message in &recorded {
-        let answer = feed(library, &mut pair, message, &hops);
-        let answer = answer.map_err(|difference| wrong(&message.name, difference))?;
-        accepted += answer & 0xfff;
-        refused += answer >> 12;
+    let (accepted, refused) =
+        feed_all(library, TABLE, &recorded).map_err(|what| format!("{file}, {what}"))?;
+    let unequal = Settings { d: unequal(), ..TABLE };
+    let again = feed_all(library, unequal, &recorded).map_err(|what| format!("{file}, {what}"))?;
+    if again != (accepted, refused) {
+        let (accepted_too, refused_too) = again;
+        return Err(format!(
+            "{file}: routes accepted {accepted}, refused {refused}, and with unequal filters {accepted_too}, \
+             {refused_too}"
+        ));
     }
     Ok(format!("{} recorded messages: routes accepted {accepted}, refused {refused}", recorded.len()))
 }
 
+/// Filters that are large where most routes are and small where hardly any is.
+fn unequal() -> Sizes {
+    let mut values = [4; 32];
+    values[8..24].fill(7);
+    values[23] = 10;
+    Sizes::of(&values)
+}
+
+/// Feeds all messages to a table that begins cleared. Gives how many routes are accepted and how many refused.
+fn feed_all(library: &mut Library, t: Settings, recorded: &[Recorded]) -> Result<(u64, u64), String> {
+    let mut pair = Pair::new(library, Area::Old, t, None, || 7, || 7);
+    let wrong = |name: &str, Difference(what): Difference| format!("{name}: {what}");
+    let lent = pair.lent(Call::Clear);
+    pair.call(library, &t, lent, Call::Clear).map_err(|difference| wrong("clear", difference))?;
+    pair.routes = Some(Routes::new(t, None));
+    let hops: Vec<u32> = recorded.iter().filter_map(|message| message.said.next_hop).collect();
+    let (mut accepted, mut refused) = (0, 0);
+    for message in recorded {
+        let answer = feed(library, &t, &mut pair, message, &hops);
+        let answer = answer.map_err(|difference| wrong(&message.name, difference))?;
+        accepted += answer & 0xfff;
+        refused += answer >> 12;
+    }
+    Ok((accepted, refused))
+}
+
 /// Does a message in both, and looks up what it announces.
-fn feed(library: &mut Library, pair: &mut Pair, message: &Recorded, hops: &[u32]) -> Result<u64, Difference> {
+fn feed(
+    library: &mut Library,
+    t: &Settings,
+    pair: &mut Pair,
+    message: &Recorded,
+    hops: &[u32],
+) -> Result<u64, Difference> {
     let bytes = message.bytes.clone();
     let lent = Message { bytes, offset: 1, hops: hops.to_vec(), hops_offset: 0 };
-    let answer = pair.call_message(library, &TABLE, pair.lent(&lent), &lent)?;
+    let answer = pair.call_message(library, t, pair.lent(&lent), &lent)?;
     if answer >> 48 != 0 {
         return Err(Difference(format!("it is refused as {}", answer >> 48)));
     }
     for (prefix, _) in &message.said.announced {
         let call = Call::Lookup { address: *prefix };
-        pair.call(library, &TABLE, pair.lent(call), call)?;
+        pair.call(library, t, pair.lent(call), call)?;
     }
     Ok(answer)
 }

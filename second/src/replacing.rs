@@ -42,7 +42,7 @@ fn met_in_bucket(
     let first = first_slot(t, length, prefix);
     let slots = (first..first + t.s as usize).map(|n| (pair.word(2 * n), pair.word(2 * n + 1)));
     let slots: Vec<(u32, u32)> = slots.collect();
-    let counters = positions(t, prefix).into_iter().map(|j| pair.counter(counter_at(t, length, j)));
+    let counters = positions(t, length, prefix).into_iter().map(|j| pair.counter(counter_at(t, length, j)));
     let counters: Vec<u8> = counters.collect();
     let free = |(_, mark): &(u32, u32)| !occupied(*mark);
     let holds = |(held, mark): &(u32, u32)| *held == prefix && occupied(*mark);

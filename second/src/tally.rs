@@ -1,7 +1,8 @@
 //! What a run has seen. A run that never met a refusal or a kind of answer has compared nothing there.
 
-use crate::calls::{AnyCall, Call};
+use crate::calls::{AnyCall, Call, Sizes};
 use crate::message_tally::MessageTally;
+use crate::other_sizes::KINDS;
 use crate::pair::Difference;
 use crate::replacing::{MEETS, MEETS_UNDAMAGED};
 use std::fmt;
@@ -21,6 +22,9 @@ const GIVES: [&[usize]; CALLS.len()] = [
     &[0, 1, 2, 12, 13],
     &[0, 3, 4, 18],
 ];
+
+/// So many of the calls, the first, have settings.
+pub const WITH_SETTINGS: usize = 8;
 
 /// Room for every refusal that a call can give.
 const REFUSALS: usize = 19;
@@ -46,11 +50,24 @@ pub struct Tally {
     replaced: [u64; REPLACING.len()],
     met: [[u64; MEETS.len()]; REPLACING.len()],
     messages: MessageTally,
+    /// Calls with other sizes than their table's.
+    other_sizes: [[u64; KINDS.len()]; WITH_SETTINGS],
+    /// Histories whose filters are all of one size, the others, and those of the others in which a route of each
+    /// length from 1 to 32 was added after the clear.
+    equal: u64,
+    unequal: u64,
+    every_length: u64,
 }
 
 impl Tally {
-    /// Counts an answer, unless its refusal is one that the call never gives.
-    pub fn count(&mut self, call: AnyCall, answer: u64) -> Result<(), Difference> {
+    /// Counts an answer to a call whose sizes are of some of these kinds, unless its refusal is one that the call
+    /// never gives.
+    pub fn count(
+        &mut self,
+        call: AnyCall,
+        kinds: [bool; KINDS.len()],
+        answer: u64,
+    ) -> Result<(), Difference> {
         let row = match call {
             AnyCall::One(Call::Clear) => 0,
             AnyCall::One(Call::Add { .. }) => 1,
@@ -67,6 +84,11 @@ impl Tally {
             return Err(Difference(format!("both give refusal {refusal}, which no {} gives", CALLS[row])));
         }
         self.given[row][refusal] += 1;
+        if row < WITH_SETTINGS {
+            for (times, met) in self.other_sizes[row].iter_mut().zip(kinds) {
+                *times += u64::from(met);
+            }
+        }
         match (call, refusal) {
             (AnyCall::One(Call::Lookup { .. }), 0) => self.count_lookup(answer),
             (AnyCall::List(list), 0) => self.count_list(list.addresses.len() / 4),
@@ -82,6 +104,16 @@ impl Tally {
         self.replaced[row] += 1;
         for (times, met) in self.met[row].iter_mut().zip(met) {
             *times += u64::from(met);
+        }
+    }
+
+    /// Counts a history that has ended, with the lengths of which a route was added after its clear.
+    pub fn count_history(&mut self, sizes: &Sizes, lengths: u32) {
+        if sizes.values().windows(2).all(|two| two[0] == two[1]) {
+            self.equal += 1;
+        } else {
+            self.unequal += 1;
+            self.every_length += u64::from(lengths == u32::MAX);
         }
     }
 
@@ -121,6 +153,8 @@ impl Tally {
             (self.empty, "list of no address was accepted"),
             (self.single, "list of one address was accepted"),
             (self.many, "list of more addresses was accepted"),
+            (self.equal, "history had filters all of one size"),
+            (self.every_length, "history with unequal filters added a route of each length"),
         ];
         if let Some((_, what)) = met.iter().find(|(times, _)| *times == 0) {
             return Some(format!("no {what}"));
@@ -128,6 +162,11 @@ impl Tally {
         for ((when, meets), met) in REPLACING.iter().zip(self.met) {
             if let Some(missed) = met[..*meets].iter().position(|times| *times == 0) {
                 return Some(format!("no add of a stored prefix {} was accepted {when}", MEETS[missed]));
+            }
+        }
+        for (row, times) in self.other_sizes.iter().enumerate() {
+            if let Some(missed) = times.iter().position(|times| *times == 0) {
+                return Some(format!("no {} had {}", CALLS[row], KINDS[missed]));
             }
         }
         self.messages.missing()
@@ -168,6 +207,17 @@ impl fmt::Display for Tally {
             for (meets, times) in MEETS[..*meets].iter().zip(self.met[row]) {
                 write!(f, ", {meets}: {times}")?;
             }
+        }
+        write!(
+            f,
+            "\n  histories: with filters all of one size {}, others {}, and {} of these with a route of each length",
+            self.equal, self.unequal, self.every_length
+        )?;
+        let least = self.other_sizes.iter().flatten().min();
+        write!(f, "\n  calls with other sizes, each by every call at least {} times:", least.unwrap_or(&0))?;
+        for (number, kind) in KINDS.iter().enumerate() {
+            let times: u64 = self.other_sizes.iter().map(|row| row[number]).sum();
+            write!(f, "{} {kind}: {times}", if number == 0 { "" } else { "," })?;
         }
         write!(f, "\n{}", self.messages)
     }

@@ -1,11 +1,11 @@
 //! Calls and their answers in words.
 
-use crate::calls::{AnyCall, Call, Lent, List, Message, Settings, Writing};
+use crate::calls::{AnyCall, Call, Lent, List, Message, Settings, Sizes, Writing};
 use std::fmt;
 
 /// A call in words.
 pub fn told<'a>(t: &Settings, lent: Lent, call: impl Into<AnyCall<'a>>) -> String {
-    let Settings { k, d, e, s, a, b, c } = t;
+    let Settings { k, e, s, a, b, c, .. } = t;
     let call = call.into();
     let asked = match call {
         AnyCall::One(call) => told_call(call),
@@ -15,9 +15,27 @@ pub fn told<'a>(t: &Settings, lent: Lent, call: impl Into<AnyCall<'a>>) -> Strin
     };
     let unit = if call.units() == 4 { "bytes" } else { "words" };
     format!(
-        "{asked}; K {k}, D {d}, E {e}, S {s}, A {a}, B {b}, C {c}; lent {} counters, {} {unit} of slots",
-        lent.counters, lent.slots
+        "{asked}; K {k}, {}, E {e}, S {s}, A {a}, B {b}, C {c}; lent {} counters, {} {unit} of slots",
+        told_sizes(&t.d),
+        lent.counters,
+        lent.slots
     )
+}
+
+/// The list of the filters' sizes: a single D if all 32 are the same.
+fn told_sizes(sizes: &Sizes) -> String {
+    match sizes.values() {
+        [] => "no D".to_string(),
+        [d, ..] if *sizes == Sizes::equal(*d) => format!("D {d}"),
+        values => {
+            let each: Vec<String> = values.iter().map(u8::to_string).collect();
+            let count = match values.len() {
+                32 => "D".to_string(),
+                count => counted(count, "value of D", "values of D"),
+            };
+            format!("{count} ({})", each.join(" "))
+        }
+    }
 }
 
 fn told_call(call: Call) -> String {

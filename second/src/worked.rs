@@ -1,14 +1,14 @@
 //! The worked cases of docs/TABLE.md, with the answers that it states: they hold both the library and this
 //! program's own rules.
 
-use crate::calls::{AnyCall, Call, Lent, List, Settings};
+use crate::calls::{AnyCall, Call, Lent, List, Settings, Sizes};
 use crate::library::{Area, Library};
 use crate::pair::Pair;
 use crate::places::{bytes_of, places};
 use crate::routes::Routes;
 use crate::rules::{bucket, counter_at, first_slot, positions, walk_agrees, T};
 use crate::told::{told, Answer};
-use crate::worked_messages;
+use crate::{worked_messages, worked_sizes};
 
 pub fn address(a: u8, b: u8, c: u8, d: u8) -> u32 {
     u32::from_be_bytes([a, b, c, d])
@@ -24,7 +24,7 @@ pub fn found(hop: u64, length: u64, probes: u64) -> u64 {
 
 /// Settings with every multiplier zero, so that all steps of a route hit one counter.
 fn zero(k: u32, s: u32) -> Settings {
-    Settings { k, d: 4, e: 0, s, a: 0, b: 0, c: 0 }
+    Settings { k, d: Sizes::equal(4), e: 0, s, a: 0, b: 0, c: 0 }
 }
 
 /// Sizes that are wrong by one.
@@ -34,7 +34,7 @@ pub fn one_off(Lent { counters, slots }: Lent) -> [Lent; 4] {
 }
 
 /// A list whose results hold something before the call.
-fn list_of(addresses: Vec<u8>, results: usize) -> List {
+pub fn list_of(addresses: Vec<u8>, results: usize) -> List {
     List { addresses, addresses_offset: 0, results: vec![7; results], results_offset: 0 }
 }
 
@@ -60,7 +60,7 @@ impl<'a> Case<'a> {
         self.gives_lent(self.pair.lent(call), call, answer)
     }
 
-    fn gives_lent(&mut self, lent: Lent, call: Call, answer: u64) -> Result<(), String> {
+    pub fn gives_lent(&mut self, lent: Lent, call: Call, answer: u64) -> Result<(), String> {
         let given = self.pair.call(self.library, &self.t, lent, call);
         let given = given.map_err(|difference| self.wrong(lent, call, difference.0))?;
         self.documented(lent, call, given, answer)
@@ -102,12 +102,12 @@ impl<'a> Case<'a> {
         self.gives(Call::Lookup { address }, answer)
     }
 
-    fn vector(&mut self, address: u32, vector: u64) -> Result<(), String> {
+    pub fn vector(&mut self, address: u32, vector: u64) -> Result<(), String> {
         self.gives(Call::Vector { address }, vector)
     }
 
     /// A list of addresses gives these answers.
-    fn list(&mut self, addresses: &[u32], answers: &[[u32; 4]]) -> Result<(), String> {
+    pub fn list(&mut self, addresses: &[u32], answers: &[[u32; 4]]) -> Result<(), String> {
         let results = bytes_of(&answers.concat());
         let list = list_of(bytes_of(addresses), results.len());
         self.list_gives(self.pair.lent(&list), &list, 0, &results)
@@ -119,7 +119,7 @@ impl<'a> Case<'a> {
         self.list_gives(self.pair.lent(&list), &list, refused(18), &list.results)
     }
 
-    fn list_gives(&mut self, lent: Lent, list: &List, answer: u64, results: &[u8]) -> Result<(), String> {
+    pub fn list_gives(&mut self, lent: Lent, list: &List, answer: u64, results: &[u8]) -> Result<(), String> {
         let given = self.pair.call_list(self.library, &self.t, lent, list);
         let given = given.map_err(|difference| self.wrong(lent, list, difference.0))?;
         self.documented(lent, list, given.answer, answer)?;
@@ -138,8 +138,9 @@ impl<'a> Case<'a> {
         }
     }
 
-    fn hashes(&self, p: u32, at: [usize; 2], home: usize) -> Result<(), String> {
-        self.holds(positions(&self.t, p) == at && bucket(&self.t, p) == home, "positions and bucket")
+    pub fn hashes(&self, p: u32, length: u32, at: [usize; 2], home: usize) -> Result<(), String> {
+        let right = positions(&self.t, length, p) == at && bucket(&self.t, p) == home;
+        self.holds(right, "positions and bucket")
     }
 }
 
@@ -147,11 +148,11 @@ pub fn run(library: &mut Library) -> Result<(), String> {
     let ten = address(10, 0, 0, 0);
 
     let case = Case::new(library, "P1 and P2", T)?;
-    case.hashes(ten, [0, 1], 0)?;
-    case.hashes(address(192, 0, 0, 0), [12, 4], 1)?;
+    case.hashes(ten, 8, [0, 1], 0)?;
+    case.hashes(address(192, 0, 0, 0), 8, [12, 4], 1)?;
 
     let mut case = Case::new(library, "P3", T)?;
-    case.hashes(0, [0, 0], 0)?;
+    case.hashes(0, 8, [0, 0], 0)?;
     case.add(0, 8, 0, 0)?;
     case.holds(case.pair.counter(counter_at(&T, 8, 0)) == 2, "the add raises the counter by 2")?;
 
@@ -230,6 +231,7 @@ pub fn run(library: &mut Library) -> Result<(), String> {
     }
     stored_again(library)?;
     downwards(library)?;
+    worked_sizes::run(library)?;
     worked_messages::run(library)
 }
 

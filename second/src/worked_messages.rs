@@ -7,7 +7,7 @@ use crate::worked::{address, found, one_off, refused, Case};
 
 /// Withdraws 10.1.0.0/16; announces 192.0.2.0/24 and 0.0.0.0/0 with NEXT_HOP 10.9.9.1, after an ORIGIN and an
 /// empty AS_PATH.
-const MESSAGE: [u8; 45] = [
+pub const MESSAGE: [u8; 45] = [
     255, 255, 255, 255, 255, 255, 255, 255, 255, 255, 255, 255, 255, 255, 255, 255, // marker
     0x00, 0x2d, 0x02, // 45 bytes, an UPDATE
     0x00, 0x03, 0x10, 0x0a, 0x01, // 3 bytes of withdrawn routes: 10.1.0.0/16
@@ -23,14 +23,14 @@ const MESSAGE: [u8; 45] = [
 const ATTRIBUTES: usize = 26;
 const ANNOUNCED: usize = 40;
 
-const NEXT_HOP: u32 = 0x0a09_0901;
+pub const NEXT_HOP: u32 = 0x0a09_0901;
 
-fn with_hops(bytes: &[u8], hops: &[u32]) -> Message {
+pub fn with_hops(bytes: &[u8], hops: &[u32]) -> Message {
     Message { bytes: bytes.to_vec(), offset: 0, hops: hops.to_vec(), hops_offset: 0 }
 }
 
 /// The number of so many routes accepted and refused.
-fn routes(accepted: u64, refused: u64) -> u64 {
+pub fn routes(accepted: u64, refused: u64) -> u64 {
     (refused << 12) + accepted
 }
 
@@ -61,7 +61,7 @@ impl Case<'_> {
         self.message_gives_with(&t, lent, message, answer)
     }
 
-    fn message_gives_with(
+    pub fn message_gives_with(
         &mut self,
         t: &Settings,
         lent: Lent,
