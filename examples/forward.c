@@ -1,10 +1,11 @@
 /*
  * Fills a table and forwards by it.
  *
- *     forward [PREFIX HOP]...
+ *     forward [-d D[,D]...] [PREFIX HOP]...
  *
- * The routes are the arguments, as 10.0.0.0/8 7; without arguments they are 10.0.0.0/8 to hop 7 and
- * 10.1.0.0/16 to hop 9. Where a prefix is given again, its last hop stands.
+ * The routes are the arguments, as 10.0.0.0/8 7; without any they are 10.0.0.0/8 to hop 7 and 10.1.0.0/16 to
+ * hop 9. Where a prefix is given again, its last hop stands. D says how large the filters are, from 4 to 11: one
+ * number for all lengths, or 32 parted by commas, that of length 1 first. Without -d it is 10.
  *
  * Each line of standard input is an address. For each, one line is written: hop, length and probes, or
  * "none" and the probes. A line that is no address is told on standard error, its odd bytes as \xNN, and
@@ -25,15 +26,22 @@
 #include <string.h>
 #include <unistd.h>
 
-/* These hold ninety routes of each length with room to spare: docs/SETTINGS.md has others. */
-enum { K = 4, D = 10, E = 7, S = 8 };
+/* These hold ninety routes of each length with room to spare: docs/SETTINGS.md has others. The counters have room
+   for any D that is given. */
+enum { K = 4, D = 10, LARGEST_D = 11, E = 7, S = 8 };
 
-static uint8_t counters[GATEWAY_COUNTERS_BYTES(D)];
+static uint8_t counters[GATEWAY_COUNTERS_BYTES(LARGEST_D)];
 static uint32_t slots[GATEWAY_SLOTS_WORDS(E, S)];
 static struct gateway_table table = {
-    .settings = {.k = K, .d = D, .e = E, .s = S, .a = GATEWAY_GOOD_A, .b = GATEWAY_GOOD_B, .c = GATEWAY_GOOD_C},
+    .settings = {.k = K,
+                 .d = GATEWAY_EQUAL(D),
+                 .e = E,
+                 .s = S,
+                 .a = GATEWAY_GOOD_A,
+                 .b = GATEWAY_GOOD_B,
+                 .c = GATEWAY_GOOD_C},
     .counters = counters,
-    .counters_bytes = sizeof counters,
+    .counters_bytes = GATEWAY_COUNTERS_BYTES(D),
     .slots = slots,
     .slots_words = sizeof slots / sizeof slots[0],
 };
@@ -157,8 +165,10 @@ int main(int argc, char **argv)
     static const char *const worked[] = {"10.0.0.0/8", "7", "10.1.0.0/16", "9"};
     int status;
 
+    if (!take_filters("forward", &argc, &argv, &table))
+        return EXIT_FAILURE;
     if (argc % 2 == 0) {
-        fprintf(stderr, "usage: forward [PREFIX HOP]... <ADDRESSES\n");
+        fprintf(stderr, "usage: forward [-d D[,D]...] [PREFIX HOP]... <ADDRESSES\n");
         return 2;
     }
     if (!accepted("clear", gateway_table_clear(&table)))

@@ -1,9 +1,11 @@
 /*
  * Does the messages of a neighbour that speaks BGP, and tells where addresses then go.
  *
- *     neighbour [NEXT_HOP]...
+ *     neighbour [-d D] [NEXT_HOP]...
  *
- * The arguments are the addresses of next hops; the first is hop 0. Each line of standard input is one of
+ * The arguments are the addresses of next hops; the first is hop 0. D says how large the filters are, from 4 to
+ * 11: one number for all lengths, or 32 parted by commas, that of length 1 first. Without -d it is 10. Each line of
+ * standard input is one of
  *
  *     ff ff ff ...                an UPDATE message, two hexadecimal digits to a byte, with or without spaces
  *     find 192.0.2.7              an address
@@ -23,15 +25,22 @@
 #include <stdlib.h>
 #include <string.h>
 
-/* These hold ninety routes of each length with room to spare: docs/SETTINGS.md has others. */
-enum { K = 4, D = 10, E = 7, S = 8 };
+/* These hold ninety routes of each length with room to spare: docs/SETTINGS.md has others. The counters have room
+   for any D that is given. */
+enum { K = 4, D = 10, LARGEST_D = 11, E = 7, S = 8 };
 
-static uint8_t counters[GATEWAY_COUNTERS_BYTES(D)];
+static uint8_t counters[GATEWAY_COUNTERS_BYTES(LARGEST_D)];
 static uint32_t slots[GATEWAY_SLOTS_WORDS(E, S)];
 static struct gateway_table table = {
-    .settings = {.k = K, .d = D, .e = E, .s = S, .a = GATEWAY_GOOD_A, .b = GATEWAY_GOOD_B, .c = GATEWAY_GOOD_C},
+    .settings = {.k = K,
+                 .d = GATEWAY_EQUAL(D),
+                 .e = E,
+                 .s = S,
+                 .a = GATEWAY_GOOD_A,
+                 .b = GATEWAY_GOOD_B,
+                 .c = GATEWAY_GOOD_C},
     .counters = counters,
-    .counters_bytes = sizeof counters,
+    .counters_bytes = GATEWAY_COUNTERS_BYTES(D),
     .slots = slots,
     .slots_words = sizeof slots / sizeof slots[0],
 };
@@ -175,6 +184,8 @@ int main(int argc, char **argv)
 {
     int status = EXIT_SUCCESS;
 
+    if (!take_filters("neighbour", &argc, &argv, &table))
+        return EXIT_FAILURE;
     if (argc - 1 > MOST_HOPS) {
         fprintf(stderr, "neighbour: more than %d next hops\n", MOST_HOPS);
         return EXIT_FAILURE;

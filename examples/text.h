@@ -1,11 +1,14 @@
-/* Addresses and prefixes as text, for the examples. Each reader steps past what it has read, and answers 0
-   where that is not there. */
+/* Addresses, prefixes and sizes of filters as text, for the examples. Each reader steps past what it has read,
+   and answers 0 where that is not there. */
 #ifndef TEXT_H
 #define TEXT_H
+
+#include <gateway.h>
 
 #include <stddef.h>
 #include <stdint.h>
 #include <stdio.h>
+#include <string.h>
 
 /* A decimal number up to most, with no leading zero. */
 static inline int read_number(const char **text, uint32_t most, uint32_t *number)
@@ -61,6 +64,48 @@ static inline void show_text(const char *text, size_t size)
         fprintf(stderr, c < ' ' || c > '~' || c == '\\' ? "\\x%02x" : "%c", c);
     }
     fputs("'\n", stderr);
+}
+
+/* Each length's D: one number from 4 to 11 for all lengths, or 32 parted by commas, that of length 1 first. What
+   is wrong is told on standard error, and 0 answered. */
+static inline int read_filters(const char *program, const char *text, uint8_t d[GATEWAY_LENGTHS])
+{
+    const char *at = text;
+    unsigned long count = 0;
+    do {
+        uint32_t value;
+        const int right = read_number(&at, 11, &value) && value >= 4 && (*at == ',' || *at == '\0');
+        if (right && count < GATEWAY_LENGTHS)
+            d[count] = (uint8_t)value;
+        count++;
+        if (!right) {
+            fprintf(stderr, "%s: -d, value %lu: not a number from 4 to 11: ", program, count);
+            show_text(text, strlen(text));
+            return 0;
+        }
+    } while (skip(&at, ','));
+    if (count == 1)
+        memset(d, d[0], GATEWAY_LENGTHS);
+    if (count != 1 && count != GATEWAY_LENGTHS) {
+        fprintf(stderr, "%s: -d has %lu values, not 1 or %d: ", program, count, GATEWAY_LENGTHS);
+        show_text(text, strlen(text));
+        return 0;
+    }
+    return 1;
+}
+
+/* Takes -d and what stands after it from the front of the arguments, if it is there, as the D of each length of
+   a table whose counters have room for the largest. */
+static inline int take_filters(const char *program, int *argc, char ***argv, struct gateway_table *table)
+{
+    if (*argc < 2 || strcmp((*argv)[1], "-d") != 0)
+        return 1;
+    if (!read_filters(program, *argc > 2 ? (*argv)[2] : "", table->settings.d))
+        return 0;
+    table->counters_bytes = gateway_counters_bytes(table->settings.d, GATEWAY_LENGTHS);
+    *argc -= 2;
+    *argv += 2;
+    return 1;
 }
 
 #endif

@@ -2,23 +2,24 @@
  * The gateway table from C: longest-prefix match over counting filters, one to a prefix length,
  * and hashed buckets.
  *
- * A table is seven numbers, its settings, and two lists of memory that the caller lends. Nothing is
- * kept between calls but what is lent, and nothing is allocated. This table holds ninety routes of
- * each length with room to spare, in 288 KiB:
+ * A table is its settings and two lists of memory that the caller lends. Nothing is kept between calls but
+ * what is lent, and nothing is allocated. This table holds ninety routes of each length with room to
+ * spare, in 288 KiB:
  *
  *     enum { D = 10, E = 7, S = 8 };
  *
  *     static uint8_t counters[GATEWAY_COUNTERS_BYTES(D)];
  *     static uint32_t slots[GATEWAY_SLOTS_WORDS(E, S)];
  *     static struct gateway_table table = {
- *         .settings = {.k = 4, .d = D, .e = E, .s = S,
+ *         .settings = {.k = 4, .d = GATEWAY_EQUAL(D), .e = E, .s = S,
  *                      .a = GATEWAY_GOOD_A, .b = GATEWAY_GOOD_B, .c = GATEWAY_GOOD_C},
  *         .counters = counters, .counters_bytes = sizeof counters,
  *         .slots = slots, .slots_words = sizeof slots / sizeof slots[0],
  *     };
  *
- * (Before C++20 the fields have no names in an initializer: set them one by one, so that a later
- * field changes nothing.) Clear it first, and look at what each call answers:
+ * (Before C++20 the fields have no names in an initializer: set them one by one, d by
+ * gateway_settings_fill, so that a later field changes nothing.) Clear it first, and look at what each call
+ * answers:
  *
  *     uint32_t refusal = gateway_table_clear(&table);
  *     if (refusal == GATEWAY_OK)
@@ -38,9 +39,9 @@
  * is answered, with zero for everything else, and no lent byte or word is changed. What no call can
  * check: each pointer must lead to as much memory as the size beside it says (beside 0 it may be NULL),
  * the lists that a call is lent must not overlap, the words of an update and the list of next hops must be
- * aligned as uint32_t, and a table must be asked and updated under the settings that it was cleared with.
- * Lookups may run at the same time, those of a list each into results of its own; an update must run alone,
- * and so must a message.
+ * aligned as uint32_t, and a table must be asked and updated under the settings that it was cleared with,
+ * each of the 32 values of d among them. Lookups may run at the same time, those of a list each into results
+ * of its own; an update must run alone, and so must a message.
  *
  * What is proved of these calls, in a C program's own terms, is stated in
  * crates/c_promises/proofs/Promises.antt and, of lists, in Lists.antt beside it; specs/Numbers.antt there
@@ -59,9 +60,35 @@
  *        300    4  11  8  8   589,828    above 99.9 in 100
  *        500    3  11  8  8   589,828    95 in 100
  *
- * Nothing larger can be set: 700 routes at one length are taken by every second table, and 1,000 by
- * hardly any. docs/SETTINGS.md has the whole measurement, and says what to do about a refusal by
- * GATEWAY_BUCKET_FULL or GATEWAY_COUNTER_FULL.
+ * The bytes are those of a table whose filters are all of one size. Nothing larger can be set: 700 routes
+ * at one length are taken by every second table, and 1,000 by hardly any. docs/SETTINGS.md has the whole
+ * measurement, and says what to do about a refusal by GATEWAY_BUCKET_FULL or GATEWAY_COUNTER_FULL.
+ *
+ * Filters of unequal size. e and s serve all lengths, but each has a d of its own, length L the one at
+ * d[L - 1], and that need be no larger than the routes of this length ask. Sixteen counters to a route are
+ * enough: a d of 4 for one route or none, 5 for two, 6 for four, 7 for eight, 8 for sixteen, 9 for 32, 10 for
+ * 64, and 11 for more. Where sixty routes are /24, twelve are /16 and no other length has more than one, that
+ * is
+ *
+ *     #define FILTERS                                             \
+ *         4, 4, 4, 4, 4, 4, 4, 4,  4, 4, 4, 4, 4, 4, 4, 8,        \
+ *         4, 4, 4, 4, 4, 4, 4, 10, 4, 4, 4, 4, 4, 4, 4, 4
+ *
+ *     static uint8_t counters[GATEWAY_COUNTERS_BYTES_OF(FILTERS)];
+ *
+ * with .d = {FILTERS} among the settings. So 30 filters have 16 counters, one has 256 and one has 1,024:
+ * 1,760 bytes, where a d of 10 for all takes 32,768. They lie one length after the other, from length 1 on:
+ * the counters of length 16 are the bytes from 15 * 16 = 240 to 495, and those of length 24 the bytes from
+ * 496 + 7 * 16 = 608 to 1,631. At run time the same is
+ *
+ *     gateway_settings_fill(&table.settings, 4);
+ *     table.settings.d[16 - 1] = 8;
+ *     table.settings.d[24 - 1] = 10;
+ *     table.counters_bytes = gateway_counters_bytes(table.settings.d, GATEWAY_LENGTHS);
+ *
+ * A filter without a route claims nothing, however small it is. One with more routes than it is made for
+ * claims what it should not, which costs probes, and may refuse a route by GATEWAY_COUNTER_FULL. So where
+ * routes may still come to a length, leave them room: the settings of a table can not be changed.
  *
  * The library is built for x86-64 alone, where a word lies in memory with its low byte first. So the
  * words that an update writes are the bytes that a lookup reads.
@@ -81,7 +108,7 @@ extern "C" {
 #endif
 
 /* The version of this header, of its archive and of its pkg-config file; CHANGELOG.md tells them apart. */
-#define GATEWAY_VERSION "0.5.0"
+#define GATEWAY_VERSION "0.6.0"
 
 /* An answer that is not looked at is a refusal that nobody sees: the compiler warns of it. */
 #if defined(__GNUC__)
@@ -93,7 +120,7 @@ extern "C" {
 /* What a call refuses, in the order in which it checks. 6, 11 and 14 to 17 are given by no call. */
 enum {
     GATEWAY_OK = 0,
-    GATEWAY_BAD_SETTINGS = 1,   /* k, d, e or s is out of its range */
+    GATEWAY_BAD_SETTINGS = 1,   /* k, e, s or a value of d is out of its range, or d is not of 32 values */
     GATEWAY_BAD_SIZE = 2,       /* counters or slots are not of exactly the size that the settings ask */
     GATEWAY_BAD_LENGTH = 3,     /* the length is above 32 */
     GATEWAY_HOST_BIT = 4,       /* the prefix has a bit set after its length */
@@ -115,7 +142,7 @@ static inline const char *gateway_refusal_text(uint32_t refusal)
 {
     switch (refusal) {
     case GATEWAY_OK: return "accepted";
-    case GATEWAY_BAD_SETTINGS: return "a setting is out of its range";
+    case GATEWAY_BAD_SETTINGS: return "a setting is out of its range, or d has not 32 values";
     case GATEWAY_BAD_SIZE: return "counters or slots are not of the size that the settings ask";
     case GATEWAY_BAD_LENGTH: return "the length is above 32";
     case GATEWAY_HOST_BIT: return "a bit is set after the length";
@@ -134,18 +161,51 @@ static inline const char *gateway_refusal_text(uint32_t refusal)
     }
 }
 
+/* The prefix lengths that have a filter, 1 to 32; the default route's has none. So many values has d. */
+#define GATEWAY_LENGTHS 32
+
+/* One value for all of them, as an initializer: .d = GATEWAY_EQUAL(10). A run-time value goes by
+   gateway_settings_fill. */
+#define GATEWAY_EQUAL(d)                                                                           \
+    {                                                                                              \
+        d, d, d, d, d, d, d, d, d, d, d, d, d, d, d, d, d, d, d, d, d, d, d, d, d, d, d, d, d, d, d, d \
+    }
+
 /*
- * The sizes to lend, as constants for an array's size; d, e and s must be in their ranges. The
- * functions below them answer 0 where a setting is out of its range.
+ * The sizes to lend, as constants for an array's size; the values of d, e and s must be in their ranges.
+ * GATEWAY_COUNTERS_BYTES and GATEWAY_TABLE_BYTES are those of a table whose values of d are all equal.
+ * GATEWAY_COUNTERS_BYTES_OF takes all 32, parted by commas; another count does not compile. The functions
+ * below them answer 0 where a setting is out of its range, or d has not 32 values.
  */
-#define GATEWAY_COUNTERS_BYTES(d) ((size_t)32 << (d))
+#define GATEWAY_COUNTERS_BYTES(d) ((size_t)GATEWAY_LENGTHS << (d))
+#define GATEWAY_COUNTERS_BYTES_OF(...) GATEWAY_SUM_OF_32(__VA_ARGS__)
 #define GATEWAY_SLOTS_WORDS(e, s) (((size_t)64 << (e)) * (s) + 1)
 #define GATEWAY_SLOTS_BYTES(e, s) (4 * GATEWAY_SLOTS_WORDS(e, s))
 #define GATEWAY_TABLE_BYTES(d, e, s) (GATEWAY_COUNTERS_BYTES(d) + GATEWAY_SLOTS_BYTES(e, s))
 
-static inline size_t gateway_counters_bytes(uint32_t d)
+/* The sum of 32 powers of two, 2^d1 + 2^d2 + ..., for GATEWAY_COUNTERS_BYTES_OF. */
+#define GATEWAY_SUM_OF_32(d1, d2, d3, d4, d5, d6, d7, d8, d9, d10, d11, d12, d13, d14, d15, d16, d17, d18, \
+                          d19, d20, d21, d22, d23, d24, d25, d26, d27, d28, d29, d30, d31, d32)    \
+    (GATEWAY_SUM_OF_8(d1, d2, d3, d4, d5, d6, d7, d8) +                                            \
+     GATEWAY_SUM_OF_8(d9, d10, d11, d12, d13, d14, d15, d16) +                                     \
+     GATEWAY_SUM_OF_8(d17, d18, d19, d20, d21, d22, d23, d24) +                                    \
+     GATEWAY_SUM_OF_8(d25, d26, d27, d28, d29, d30, d31, d32))
+#define GATEWAY_SUM_OF_8(d1, d2, d3, d4, d5, d6, d7, d8)                                           \
+    (((size_t)1 << (d1)) + ((size_t)1 << (d2)) + ((size_t)1 << (d3)) + ((size_t)1 << (d4)) +       \
+     ((size_t)1 << (d5)) + ((size_t)1 << (d6)) + ((size_t)1 << (d7)) + ((size_t)1 << (d8)))
+
+/* The sum of the powers 2^d[i]: count must be GATEWAY_LENGTHS. */
+static inline size_t gateway_counters_bytes(const uint8_t *d, size_t count)
 {
-    return d < 4 || d > 11 ? 0 : GATEWAY_COUNTERS_BYTES(d);
+    size_t bytes = 0;
+    if (count != GATEWAY_LENGTHS)
+        return 0;
+    for (size_t i = 0; i < count; i++) {
+        if (d[i] < 4 || d[i] > 11)
+            return 0;
+        bytes += (size_t)1 << d[i];
+    }
+    return bytes;
 }
 
 static inline size_t gateway_slots_words(uint32_t e, uint32_t s)
@@ -180,17 +240,24 @@ static inline size_t gateway_withdrawal_bytes(uint32_t length)
 #define GATEWAY_GOOD_C 0x9e3779b1u
 
 struct gateway_settings {
-    uint32_t k;       /* hash steps, 1 to 8 */
-    uint32_t d;       /* a filter has 2^d counters, 4 to 11 */
-    uint32_t e;       /* a length has 2^e buckets, 0 to 8 */
-    uint32_t s;       /* slots in a bucket, 1 to 8 */
-    uint32_t a, b, c; /* multipliers, any numbers: a and b of the filters, c of the buckets */
+    uint32_t k;                 /* hash steps, 1 to 8 */
+    uint8_t d[GATEWAY_LENGTHS]; /* the filter of length L has 2^d[L - 1] counters, 4 to 11 */
+    uint32_t e;                 /* a length has 2^e buckets, 0 to 8 */
+    uint32_t s;                 /* slots in a bucket, 1 to 8 */
+    uint32_t a, b, c;           /* multipliers, any numbers: a and b of the filters, c of the buckets */
 };
+
+/* Gives every length the same d. One out of its range stays out of it, above 255 too, and the calls refuse it. */
+static inline void gateway_settings_fill(struct gateway_settings *settings, uint32_t d)
+{
+    for (size_t i = 0; i < GATEWAY_LENGTHS; i++)
+        settings->d[i] = (uint8_t)(d > 255 ? 255 : d);
+}
 
 struct gateway_table {
     struct gateway_settings settings;
     uint8_t *counters;
-    size_t counters_bytes; /* exactly GATEWAY_COUNTERS_BYTES(d) */
+    size_t counters_bytes; /* exactly gateway_counters_bytes(d, GATEWAY_LENGTHS) */
     uint32_t *slots;
     size_t slots_words; /* exactly GATEWAY_SLOTS_WORDS(e, s) */
 };
@@ -229,25 +296,28 @@ struct gateway_report {
  * The exported functions. A program calls those at the end, which stand on these. Each of these
  * answers one 64-bit number whose parts are read by the functions that follow: a refusal begins
  * at bit 48, so the answer is not itself a GATEWAY_ number, and an int would lose it.
+ *
+ * d is lent as a list, of d_count bytes, which no call changes. Any other count than GATEWAY_LENGTHS is
+ * refused as GATEWAY_BAD_SETTINGS, as is a value out of its range.
  */
 
 /* Updates. Of their answers only gateway_refusal is ever other than zero. */
-GATEWAY_ANSWERS uint64_t gateway_clear(uint32_t k, uint32_t d, uint32_t e, uint32_t s, uint32_t a,
-                                       uint32_t b, uint32_t c, uint8_t *counters,
+GATEWAY_ANSWERS uint64_t gateway_clear(uint32_t k, const uint8_t *d, size_t d_count, uint32_t e, uint32_t s,
+                                       uint32_t a, uint32_t b, uint32_t c, uint8_t *counters,
                                        size_t counters_bytes, uint32_t *slots, size_t slots_words);
 
-GATEWAY_ANSWERS uint64_t gateway_add(uint32_t k, uint32_t d, uint32_t e, uint32_t s, uint32_t a,
-                                     uint32_t b, uint32_t c, uint8_t *counters, size_t counters_bytes,
-                                     uint32_t *slots, size_t slots_words, uint32_t prefix,
-                                     uint32_t length, uint32_t hop);
+GATEWAY_ANSWERS uint64_t gateway_add(uint32_t k, const uint8_t *d, size_t d_count, uint32_t e, uint32_t s,
+                                     uint32_t a, uint32_t b, uint32_t c, uint8_t *counters,
+                                     size_t counters_bytes, uint32_t *slots, size_t slots_words,
+                                     uint32_t prefix, uint32_t length, uint32_t hop);
 
-GATEWAY_ANSWERS uint64_t gateway_withdraw(uint32_t k, uint32_t d, uint32_t e, uint32_t s, uint32_t a,
-                                          uint32_t b, uint32_t c, uint8_t *counters,
+GATEWAY_ANSWERS uint64_t gateway_withdraw(uint32_t k, const uint8_t *d, size_t d_count, uint32_t e,
+                                          uint32_t s, uint32_t a, uint32_t b, uint32_t c, uint8_t *counters,
                                           size_t counters_bytes, uint32_t *slots, size_t slots_words,
                                           uint32_t prefix, uint32_t length);
 
-GATEWAY_ANSWERS uint64_t gateway_change(uint32_t k, uint32_t d, uint32_t e, uint32_t s, uint32_t a,
-                                        uint32_t b, uint32_t c, uint8_t *counters,
+GATEWAY_ANSWERS uint64_t gateway_change(uint32_t k, const uint8_t *d, size_t d_count, uint32_t e,
+                                        uint32_t s, uint32_t a, uint32_t b, uint32_t c, uint8_t *counters,
                                         size_t counters_bytes, uint32_t *slots, size_t slots_words,
                                         uint32_t prefix, uint32_t length, uint32_t hop);
 
@@ -255,16 +325,15 @@ GATEWAY_ANSWERS uint64_t gateway_change(uint32_t k, uint32_t d, uint32_t e, uint
  * Questions. They take the slots by the byte, a word's lowest byte first and on no boundary, so that a
  * table can be asked that came as bytes: from a file, say. On x86-64 words in memory are such bytes.
  */
-GATEWAY_ANSWERS uint64_t gateway_lookup(uint32_t k, uint32_t d, uint32_t e, uint32_t s, uint32_t a,
-                                        uint32_t b, uint32_t c, const uint8_t *counters,
-                                        size_t counters_bytes, const uint8_t *slots,
-                                        size_t slots_bytes, uint32_t address);
+GATEWAY_ANSWERS uint64_t gateway_lookup(uint32_t k, const uint8_t *d, size_t d_count, uint32_t e,
+                                        uint32_t s, uint32_t a, uint32_t b, uint32_t c,
+                                        const uint8_t *counters, size_t counters_bytes,
+                                        const uint8_t *slots, size_t slots_bytes, uint32_t address);
 
-GATEWAY_ANSWERS uint64_t gateway_match_vector(uint32_t k, uint32_t d, uint32_t e, uint32_t s,
-                                              uint32_t a, uint32_t b, uint32_t c,
+GATEWAY_ANSWERS uint64_t gateway_match_vector(uint32_t k, const uint8_t *d, size_t d_count, uint32_t e,
+                                              uint32_t s, uint32_t a, uint32_t b, uint32_t c,
                                               const uint8_t *counters, size_t counters_bytes,
-                                              const uint8_t *slots, size_t slots_bytes,
-                                              uint32_t address);
+                                              const uint8_t *slots, size_t slots_bytes, uint32_t address);
 
 /*
  * The lookup of each address of a list, in the list's order. Addresses and results are bytes as the slots
@@ -274,12 +343,12 @@ GATEWAY_ANSWERS uint64_t gateway_match_vector(uint32_t k, uint32_t d, uint32_t e
  * GATEWAY_BAD_LIST if results_bytes is not four times addresses_bytes or addresses_bytes is no multiple of
  * four. A refused list leaves every byte of the results as it was. An empty one is accepted.
  */
-GATEWAY_ANSWERS uint64_t gateway_lookup_list(uint32_t k, uint32_t d, uint32_t e, uint32_t s, uint32_t a,
-                                             uint32_t b, uint32_t c, const uint8_t *counters,
-                                             size_t counters_bytes, const uint8_t *slots,
-                                             size_t slots_bytes, const uint8_t *addresses,
-                                             size_t addresses_bytes, uint8_t *results,
-                                             size_t results_bytes);
+GATEWAY_ANSWERS uint64_t gateway_lookup_list(uint32_t k, const uint8_t *d, size_t d_count, uint32_t e,
+                                             uint32_t s, uint32_t a, uint32_t b, uint32_t c,
+                                             const uint8_t *counters, size_t counters_bytes,
+                                             const uint8_t *slots, size_t slots_bytes,
+                                             const uint8_t *addresses, size_t addresses_bytes,
+                                             uint8_t *results, size_t results_bytes);
 
 /*
  * Does one message of a neighbour: an UPDATE of BGP (RFC 4271). Each route that it withdraws is withdrawn, as
@@ -306,11 +375,11 @@ GATEWAY_ANSWERS uint64_t gateway_lookup_list(uint32_t k, uint32_t d, uint32_t e,
  * that the list does not have at a place up to 65535. Of a refused message no route is done: nothing is
  * changed.
  */
-GATEWAY_ANSWERS uint64_t gateway_update(uint32_t k, uint32_t d, uint32_t e, uint32_t s, uint32_t a,
-                                        uint32_t b, uint32_t c, uint8_t *counters,
+GATEWAY_ANSWERS uint64_t gateway_update(uint32_t k, const uint8_t *d, size_t d_count, uint32_t e,
+                                        uint32_t s, uint32_t a, uint32_t b, uint32_t c, uint8_t *counters,
                                         size_t counters_bytes, uint32_t *slots, size_t slots_words,
-                                        const uint8_t *message, size_t message_bytes,
-                                        const uint32_t *hops, size_t hops_words);
+                                        const uint8_t *message, size_t message_bytes, const uint32_t *hops,
+                                        size_t hops_words);
 
 /*
  * Writes the message that withdraws one route, to be sent to a neighbour; no table is asked or changed. The
@@ -376,8 +445,8 @@ static inline uint32_t gateway_refused(uint64_t answer)
  */
 
 #define GATEWAY_SETTINGS_OF(table)                                                                 \
-    (table)->settings.k, (table)->settings.d, (table)->settings.e, (table)->settings.s,            \
-        (table)->settings.a, (table)->settings.b, (table)->settings.c
+    (table)->settings.k, (table)->settings.d, GATEWAY_LENGTHS, (table)->settings.e,                \
+        (table)->settings.s, (table)->settings.a, (table)->settings.b, (table)->settings.c
 #define GATEWAY_WORDS_OF(table)                                                                    \
     (table)->counters, (table)->counters_bytes, (table)->slots, (table)->slots_words
 #define GATEWAY_BYTES_OF(table)                                                                    \

@@ -6,20 +6,74 @@
 
 #include <string.h>
 
+/* The list of the header's own example: 256 counters to length 16, 1,024 to length 24, 16 to the others. */
+#define FILTERS                                                                                    \
+    4, 4, 4, 4, 4, 4, 4, 4, 4, 4, 4, 4, 4, 4, 4, 8, 4, 4, 4, 4, 4, 4, 4, 10, 4, 4, 4, 4, 4, 4, 4, 4
+
+/* The bytes of a list whose values are all 4, but for this one. */
+static size_t bytes_with(size_t place, uint8_t value)
+{
+    uint8_t d[GATEWAY_LENGTHS] = GATEWAY_EQUAL(4);
+    d[place] = value;
+    return gateway_counters_bytes(d, sizeof d);
+}
+
+static void run_lists(void)
+{
+    enum { D = 11 };
+    const uint8_t equal[] = GATEWAY_EQUAL(D), unequal[] = {FILTERS}, longer[] = {FILTERS, 4};
+    uint8_t counters[GATEWAY_COUNTERS_BYTES_OF(FILTERS)];
+    CHECK(GATEWAY_LENGTHS == 32 && sizeof equal == 32 && sizeof unequal == 32);
+    CHECK(sizeof counters == 1760 && gateway_counters_bytes(unequal, 32) == 1760);
+    CHECK(gateway_counters_bytes(equal, 32) == 65536 && GATEWAY_COUNTERS_BYTES(D) == 65536);
+    for (size_t i = 0; i < sizeof equal; i++)
+        CHECK(equal[i] == 11);
+
+    /* 2^0 + 2^1 + ... + 2^31: each place is counted, and once. */
+    CHECK(GATEWAY_COUNTERS_BYTES_OF(0, 1, 2, 3, 4, 5, 6, 7, 8, 9, 10, 11, 12, 13, 14, 15, 16, 17, 18, 19, 20, 21,
+                                    22, 23, 24, 25, 26, 27, 28, 29, 30, 31) == UINT32_MAX);
+    CHECK(2 * GATEWAY_COUNTERS_BYTES_OF(FILTERS) == 3520);
+
+    CHECK(gateway_counters_bytes(unequal, 31) == 0 && gateway_counters_bytes(longer, 33) == 0);
+    CHECK(gateway_counters_bytes(longer, 32) == 1760 && gateway_counters_bytes(longer + 1, 32) == 1760);
+    CHECK(gateway_counters_bytes(unequal, 0) == 0 && gateway_counters_bytes(NULL, 0) == 0);
+    for (size_t place = 0; place < 32; place++) {
+        CHECK(bytes_with(place, 3) == 0 && bytes_with(place, 12) == 0);
+        CHECK(bytes_with(place, 0) == 0 && bytes_with(place, 255) == 0);
+        CHECK(bytes_with(place, 4) == 512 && bytes_with(place, 5) == 528 && bytes_with(place, 11) == 2544);
+    }
+
+    struct gateway_settings settings = {4, {FILTERS}, 7, 8, GATEWAY_GOOD_A, GATEWAY_GOOD_B, GATEWAY_GOOD_C};
+    CHECK(settings.d[15] == 8 && settings.d[23] == 10 && settings.d[22] == 4 && settings.d[24] == 4);
+    CHECK(settings.c == GATEWAY_GOOD_C);
+    gateway_settings_fill(&settings, 11);
+    CHECK(memcmp(settings.d, equal, sizeof equal) == 0);
+    CHECK(settings.k == 4 && settings.e == 7 && settings.s == 8 && settings.a == GATEWAY_GOOD_A);
+    /* What is out of its range does not come into it. */
+    const uint32_t out[] = {0, 3, 12, 255, 256, 260, 267, 0x10000 + 10, UINT32_MAX};
+    for (size_t i = 0; i < sizeof out / sizeof out[0]; i++) {
+        gateway_settings_fill(&settings, out[i]);
+        CHECK(gateway_counters_bytes(settings.d, sizeof settings.d) == 0);
+        for (size_t place = 0; place < 32; place++)
+            CHECK(settings.d[place] < 4 || settings.d[place] > 11);
+    }
+}
+
 int main(void)
 {
+    run_lists();
+
     /* Settings T: 512 counters, 257 words. */
     uint8_t counters[GATEWAY_COUNTERS_BYTES(4)], both[GATEWAY_TABLE_BYTES(4, 1, 2)];
     uint32_t slots[GATEWAY_SLOTS_WORDS(1, 2)];
-    CHECK(sizeof counters == 512 && gateway_counters_bytes(4) == 512);
+    const uint8_t fours[] = GATEWAY_EQUAL(4);
+    CHECK(sizeof counters == 512 && gateway_counters_bytes(fours, sizeof fours) == 512);
     CHECK(sizeof slots == 4 * 257 && gateway_slots_words(1, 2) == 257);
     CHECK(gateway_slots_bytes(1, 2) == sizeof slots && GATEWAY_SLOTS_BYTES(1, 2) == sizeof slots);
     CHECK(sizeof both == sizeof counters + sizeof slots);
 
-    CHECK(gateway_counters_bytes(11) == 65536 && gateway_slots_words(8, 8) == 131073);
-    CHECK(gateway_slots_words(0, 1) == 65);
-    CHECK(gateway_counters_bytes(3) == 0 && gateway_counters_bytes(12) == 0);
-    CHECK(gateway_counters_bytes(UINT32_MAX) == 0 && gateway_slots_words(UINT32_MAX, 1) == 0);
+    CHECK(gateway_slots_words(8, 8) == 131073 && gateway_slots_words(0, 1) == 65);
+    CHECK(gateway_slots_words(UINT32_MAX, 1) == 0);
     CHECK(gateway_slots_words(9, 1) == 0 && gateway_slots_words(0, 0) == 0);
     CHECK(gateway_slots_words(0, 9) == 0 && gateway_slots_bytes(0, 9) == 0);
 

@@ -27,14 +27,19 @@ struct list {
     size_t size;
 };
 
+enum { MOST_VALUES = 2 * GATEWAY_LENGTHS };
+
 struct call {
     enum kind kind;
-    uint32_t k, d, e, s, a, b, c;
+    uint32_t k, e, s, a, b, c;
+    uint8_t d[MOST_VALUES];
+    size_t d_count; /* so many of them are lent */
     uint32_t asked, length, hop;
 };
 
 /* What one of the two is lent. An update is told of words of slots, a question of bytes. */
 struct lent {
+    struct list d; /* for each call anew */
     struct list counters, slots;
     struct list addresses, results; /* of a list */
     struct list message, hops;      /* of a message that is read */
@@ -44,6 +49,7 @@ struct lent {
 enum { ROUTES = 24, MOST_NUMBERS = 19, SMALL = 1 << 14 };
 
 static uint64_t given[KINDS][MOST_NUMBERS], routes_accepted, routes_refused;
+static uint64_t unequal_tables, counts_refused, values_refused;
 static unsigned long long seed;
 static unsigned long table;
 
@@ -83,8 +89,11 @@ static void check(int agrees, const struct call *c, const char *what)
 {
     if (agrees)
         return;
-    printf("lent: under seed %llu, table %lu, %s with K %u, D %u, E %u, S %u: the %s differs\n", seed, table,
-           names[c->kind], (unsigned)c->k, (unsigned)c->d, (unsigned)c->e, (unsigned)c->s, what);
+    printf("lent: under seed %llu, table %lu, %s with K %u, E %u, S %u, D", seed, table, names[c->kind],
+           (unsigned)c->k, (unsigned)c->e, (unsigned)c->s);
+    for (size_t i = 0; i < c->d_count; i++)
+        printf(" %u", (unsigned)c->d[i]);
+    printf(": the %s differs\n", what);
     exit(1);
 }
 
@@ -93,7 +102,7 @@ static void check_lists(const struct list *one, const struct list *other, const 
     check(one->size == 0 || memcmp(one->at, other->at, one->size) == 0, c, what);
 }
 
-#define SETTINGS c->k, c->d, c->e, c->s, c->a, c->b, c->c
+#define SETTINGS c->k, m->d.at, m->d.size, c->e, c->s, c->a, c->b, c->c
 #define WORDS SETTINGS, m->counters.at, m->counters.size, (uint32_t *)(void *)m->slots.at, m->slots.size / 4
 #define BYTES SETTINGS, m->counters.at, m->counters.size, m->slots.at, m->slots.size
 
@@ -315,9 +324,25 @@ static void forget(struct list *list)
     *list = lend(list->size, offset);
 }
 
-/* Makes a call of both. What by_hand is lent holds the same, but that m may lack what no answer needs. */
-static void compare(const struct call *c, const struct lent *by_hand, struct lent *m)
+/* The values of d, but that of another count than 32 the library gets bytes to which nothing was written. */
+static void lend_filters(struct lent *by_hand, struct lent *m, const struct call *c)
 {
+    by_hand->d = lend(c->d_count, 0);
+    if (c->d_count != 0)
+        memcpy(by_hand->d.at, c->d, c->d_count);
+    m->d = c->d_count == GATEWAY_LENGTHS ? copy(&by_hand->d, random_below(4)) : lend(c->d_count, random_below(4));
+}
+
+/* Whether a value of the list is out of its range, and the list of the right count. */
+static int has_bad_value(const struct call *c)
+{
+    return c->d_count == GATEWAY_LENGTHS && gateway_counters_bytes(c->d, c->d_count) == 0;
+}
+
+/* Makes a call of both. What by_hand is lent holds the same, but that m may lack what no answer needs. */
+static void compare(const struct call *c, struct lent *by_hand, struct lent *m)
+{
+    lend_filters(by_hand, m, c);
     const uint64_t ours = answer(&hand, c, by_hand);
     const uint32_t refusal = gateway_refusal(ours);
     const int unread = refusal == GATEWAY_BAD_SETTINGS || refusal == GATEWAY_BAD_SIZE;
@@ -335,6 +360,14 @@ static void compare(const struct call *c, const struct lent *by_hand, struct len
     check(theirs == ours, c, "answer");
     check(refusal < MOST_NUMBERS, c, "number");
     given[c->kind][refusal]++;
+    if (refusal == GATEWAY_BAD_SETTINGS) {
+        counts_refused += c->d_count != GATEWAY_LENGTHS;
+        values_refused += has_bad_value(c);
+    }
+    if (c->d_count == GATEWAY_LENGTHS)
+        check_lists(&m->d, &by_hand->d, c, "list of D");
+    take_back(&by_hand->d);
+    take_back(&m->d);
     if (c->kind == MESSAGE) {
         routes_accepted += gateway_accepted(ours);
         routes_refused += gateway_refused(ours);
@@ -363,6 +396,39 @@ static uint32_t random_setting(uint32_t least, uint32_t most)
     return one_in(8) ? most : least + random_below(most - least + 1);
 }
 
+/* All values alike, all the least but for a few, or any. */
+static void random_filters(struct call *c, uint32_t most)
+{
+    const uint32_t all = random_setting(4, most), kind = random_below(3);
+    c->d_count = GATEWAY_LENGTHS;
+    for (size_t i = 0; i < MOST_VALUES; i++)
+        c->d[i] = (uint8_t)(kind == 0 ? all : kind == 1 && !one_in(6) ? 4 : random_setting(4, most));
+    for (size_t i = 1; i < GATEWAY_LENGTHS; i++)
+        if (c->d[i] != c->d[0]) {
+            unequal_tables++;
+            break;
+        }
+}
+
+static uint32_t wrong_number(void)
+{
+    return one_in(2) ? random_below(16) : random_word();
+}
+
+/* Another number for one of the settings, another value in the list, or another count of them. */
+static void spoil_settings(struct call *c)
+{
+    static const size_t counts[] = {0, 1, GATEWAY_LENGTHS - 1, GATEWAY_LENGTHS + 1};
+    uint32_t *const settings[] = {&c->k, &c->e, &c->s};
+    const uint32_t which = random_below(6);
+    if (which < 3)
+        *settings[which] = wrong_number();
+    else if (which < 5)
+        c->d[one_in(3) ? 0 : one_in(3) ? GATEWAY_LENGTHS - 1 : random_below(GATEWAY_LENGTHS)] = (uint8_t)wrong_number();
+    else
+        c->d_count = one_in(4) ? random_below(MOST_VALUES + 1) : counts[random_below(4)];
+}
+
 static void random_route(struct call *c)
 {
     c->length = one_in(8) ? 0 : one_in(40) ? 33 + random_below(4) : 1 + random_below(one_in(2) ? 3 : 32);
@@ -374,18 +440,18 @@ static void random_route(struct call *c)
 /* A call of memory of its own, with settings or sizes that most often are wrong. */
 static void call_wrongly(struct call c, const struct call routes[ROUTES])
 {
-    uint32_t *const settings[] = {&c.k, &c.d, &c.e, &c.s};
+    const size_t before = gateway_counters_bytes(c.d, c.d_count);
     if (one_in(2))
-        *settings[random_below(4)] = one_in(2) ? random_below(16) : random_word();
-    size_t bytes = perhaps_wrong(gateway_counters_bytes(c.d), 2);
+        spoil_settings(&c);
+    size_t bytes = perhaps_wrong(one_in(4) ? before : gateway_counters_bytes(c.d, c.d_count), 2);
     size_t size = perhaps_wrong(gateway_slots_bytes(c.e, c.s), 2);
     if (!asks(&c))
         size -= size % 4;
     struct lent by_hand = {.counters = lend(bytes, 0), .slots = lend(size, 0)}, m = {.counters = {0}};
     fill(&by_hand.counters);
     fill(&by_hand.slots);
-    uint32_t refusal = gateway_refusal(hand.match_vector(c.k, c.d, c.e, c.s, c.a, c.b, c.c, by_hand.counters.at, bytes,
-                                                         by_hand.slots.at, size, 0));
+    uint32_t refusal = gateway_refusal(hand.match_vector(c.k, c.d, c.d_count, c.e, c.s, c.a, c.b, c.c,
+                                                         by_hand.counters.at, bytes, by_hand.slots.at, size, 0));
     if (refusal != GATEWAY_OK) {
         /* What is refused for its settings or sizes is refused whatever the memory holds. */
         m.counters = lend(bytes, 0);
@@ -450,10 +516,16 @@ static void damage(const struct lent *by_hand, const struct lent *m)
 static void run_table(void)
 {
     const int large = one_in(6);
-    struct call c = {CLEAR, random_setting(1, 8), random_setting(4, large ? 11 : 6), random_setting(0, large ? 8 : 3),
-                     random_setting(1, 8), random_multiplier(), random_multiplier(), random_multiplier(), 0, 0, 0};
+    struct call c = {.kind = CLEAR,
+                     .k = random_setting(1, 8),
+                     .e = random_setting(0, large ? 8 : 3),
+                     .s = random_setting(1, 8),
+                     .a = random_multiplier(),
+                     .b = random_multiplier(),
+                     .c = random_multiplier()};
+    random_filters(&c, large ? 11 : 6);
     struct call routes[ROUTES];
-    struct lent by_hand = {.counters = lend(gateway_counters_bytes(c.d), 0),
+    struct lent by_hand = {.counters = lend(gateway_counters_bytes(c.d, c.d_count), 0),
                            .slots = lend(gateway_slots_bytes(c.e, c.s), 0)};
     struct lent m = by_hand;
     for (size_t i = 0; i < ROUTES; i++)
@@ -509,6 +581,10 @@ static int tell(void)
     for (int kind = 0; kind < KINDS; kind++)
         narrow |= given[kind][0] == 0 || (kind != WRITE && (given[kind][1] == 0 || given[kind][2] == 0));
     narrow |= given[LIST][18] == 0 || given[WRITE][18] == 0 || routes_accepted == 0 || routes_refused == 0;
+    narrow |= unequal_tables == 0 || counts_refused == 0 || values_refused == 0;
+    printf("  lists of D: %llu tables with unequal ones, %llu refused for their count, %llu for a value\n",
+           (unsigned long long)unequal_tables, (unsigned long long)counts_refused,
+           (unsigned long long)values_refused);
     printf("  routes of messages: %llu accepted, %llu refused\n", (unsigned long long)routes_accepted,
            (unsigned long long)routes_refused);
     printf("%llu calls on %lu tables, every answer and byte agrees\n", (unsigned long long)calls, table);

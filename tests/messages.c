@@ -19,7 +19,8 @@ static uint32_t slots[SLOTS], twin_slots[SLOTS], left_slots[SLOTS];
 /* A cleared table: that of settings T, of P9, of P10 and the like have as much memory or less. */
 static struct gateway_table cleared(uint32_t k, uint32_t e, uint32_t s, uint32_t a, uint32_t b, uint32_t c)
 {
-    struct gateway_table table = {{k, 4, e, s, a, b, c}, counters, COUNTERS, slots, gateway_slots_words(e, s)};
+    struct gateway_table table = {{k, GATEWAY_EQUAL(4), e, s, a, b, c}, counters, COUNTERS, slots,
+                                  gateway_slots_words(e, s)};
     memset(slots, 0, sizeof slots); /* those beyond this table too */
     CHECK(gateway_table_clear(&table) == GATEWAY_OK);
     return table;
@@ -123,8 +124,9 @@ static int gives(struct gateway_table *table, const uint8_t *message, size_t siz
     if (size != 0)
         memcpy(from, message, size);
 
-    const uint64_t number = gateway_update(t.k, t.d, t.e, t.s, t.a, t.b, t.c, counters, table->counters_bytes, slots,
-                                           table->slots_words, message == NULL ? NULL : from, size, list, count);
+    const uint64_t number =
+        gateway_update(t.k, t.d, sizeof t.d, t.e, t.s, t.a, t.b, t.c, counters, table->counters_bytes, slots,
+                       table->slots_words, message == NULL ? NULL : from, size, list, count);
     const struct gateway_report report = gateway_table_update(&twin, from, size, list, count);
     return number == ((uint64_t)refusal << 48) + ((uint64_t)refused << 12) + accepted && report.refusal == refusal &&
            report.accepted == accepted && report.refused == refused && same_memory(twin_counters, twin_slots) &&
@@ -407,6 +409,9 @@ static void run_order(void)
     table.settings.k = 9;
     CHECK(refuses(&table, good, GATEWAY_BAD_SETTINGS) && refuses(&table, bad, GATEWAY_BAD_SETTINGS));
     CHECK(gives(&table, NULL, 0, NULL, 0, GATEWAY_BAD_SETTINGS, 0, 0));
+    table.settings.k = 2;
+    table.settings.d[31] = 12;
+    CHECK(refuses(&table, good, GATEWAY_BAD_SETTINGS) && refuses(&table, bad, GATEWAY_BAD_SETTINGS));
 }
 
 /* Writes a withdrawal into room that begins on no boundary, and tells whether both functions give this number and

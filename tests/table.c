@@ -1,6 +1,7 @@
 /*
  * The calls of gateway.h on a table, over the archive: worked cases of docs/TABLE.md, every refusal
- * as the plain number that it is, adds of what is stored, and what docs/SETTINGS.md says of ninety routes.
+ * as the plain number that it is, adds of what is stored, what docs/SETTINGS.md says of ninety routes, and the
+ * header's example of filters of unequal size.
  */
 #include "check.h"
 
@@ -24,12 +25,13 @@ static int is_refused(struct gateway_answer answer, uint32_t refusal)
 static uint8_t counters[GATEWAY_COUNTERS_BYTES(11)];
 static uint32_t slots[GATEWAY_SLOTS_WORDS(8, 8)];
 
-/* A cleared table in as much of that memory as its settings ask. */
+/* A cleared table whose filters are all of one size, in as much of that memory as its settings ask. */
 static struct gateway_table cleared(uint32_t k, uint32_t d, uint32_t e, uint32_t s, uint32_t a, uint32_t b,
                                     uint32_t c)
 {
-    struct gateway_table table = {{k, d, e, s, a, b, c}, counters, gateway_counters_bytes(d), slots,
+    struct gateway_table table = {{k, {0}, e, s, a, b, c}, counters, GATEWAY_COUNTERS_BYTES(d), slots,
                                   gateway_slots_words(e, s)};
+    gateway_settings_fill(&table.settings, d);
     CHECK(gateway_table_clear(&table) == GATEWAY_OK);
     return table;
 }
@@ -199,7 +201,7 @@ static uint32_t list_refusal(const struct gateway_table *table, size_t addresses
     memset(left, 0xa5, sizeof left);
     const struct gateway_settings t = table->settings;
     const uint64_t answer = gateway_lookup_list(
-        t.k, t.d, t.e, t.s, t.a, t.b, t.c, table->counters, table->counters_bytes,
+        t.k, t.d, sizeof t.d, t.e, t.s, t.a, t.b, t.c, table->counters, table->counters_bytes,
         (const uint8_t *)table->slots, 4 * table->slots_words, addresses + 1, addresses_bytes, results + 1,
         results_bytes);
     if (answer == 0)
@@ -278,6 +280,37 @@ static uint32_t ninety(struct gateway_table table, uint32_t refusal)
     return stored;
 }
 
+/* The sum of the counters from one byte up to before another. */
+static uint32_t raised(size_t from, size_t to)
+{
+    uint32_t sum = 0;
+    for (size_t i = from; i < to; i++)
+        sum += counters[i];
+    return sum;
+}
+
+/* Sixty routes /24 and twelve /16 under the list that the header makes of them: each raises four counters, which lie
+   where it says. */
+static void run_unequal(void)
+{
+    struct gateway_table table = cleared(4, 4, 7, 8, GATEWAY_GOOD_A, GATEWAY_GOOD_B, GATEWAY_GOOD_C);
+    table.settings.d[16 - 1] = 8;
+    table.settings.d[24 - 1] = 10;
+    table.counters_bytes = gateway_counters_bytes(table.settings.d, GATEWAY_LENGTHS);
+    CHECK(table.counters_bytes == 1760);
+    CHECK(gateway_table_clear(&table) == GATEWAY_OK);
+    for (uint32_t i = 0; i < 12; i++)
+        CHECK(gateway_table_add(&table, 0x0a000000 + (i << 16), 16, 100 + i) == GATEWAY_OK);
+    CHECK(raised(240, 496) == 4 * 12 && raised(0, 1760) == 4 * 12);
+    for (uint32_t i = 0; i < 60; i++)
+        CHECK(gateway_table_add(&table, 0x0a000000 + (i << 8), 24, i) == GATEWAY_OK);
+    CHECK(raised(608, 1632) == 4 * 60 && raised(0, 1760) == 4 * 72);
+    for (uint32_t i = 0; i < 60; i++)
+        CHECK(goes_to(&table, 0x0a000001 + (i << 8), i, 24, 1));
+    for (uint32_t i = 1; i < 12; i++)
+        CHECK(gateway_table_lookup(&table, 0x0a000001 + (i << 16)).hop == 100 + i);
+}
+
 int main(void)
 {
     run_worked();
@@ -289,5 +322,6 @@ int main(void)
     CHECK(ninety(cleared(4, 10, 7, 8, GATEWAY_GOOD_A, GATEWAY_GOOD_B, GATEWAY_GOOD_C), GATEWAY_OK) == 90);
     CHECK(ninety(cleared(4, 11, 8, 8, 1, 2, 1), GATEWAY_BUCKET_FULL) == 8);
     CHECK(ninety(cleared(4, 11, 8, 8, 0, 0, 0), GATEWAY_COUNTER_FULL) == 3);
+    run_unequal();
     return wrong ? EXIT_FAILURE : EXIT_SUCCESS;
 }
