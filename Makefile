@@ -7,7 +7,8 @@
 #                                  one that does a neighbour's messages
 #   make install PREFIX=/usr/local header, archive and pkg-config file; DESTDIR is put before PREFIX
 #   make uninstall                 takes these three away again
-#   make settings                  measures which settings take how many routes; SEED=1 fixes them
+#   make settings                  measures which settings take how many routes, and what a D for each length
+#                                  saves; SEED=1 fixes them
 #   make second                    target/second, the independent program that checks the library and
 #                                  the text program
 #   make soak SECONDS=60           runs it on random histories, or CALLS=10000000; SEED=1 fixes them. On a
@@ -17,10 +18,12 @@
 #                                  SEED=1 fixes the calls, TABLES=1000 says how many tables they are of
 #   make edits                     runs each wrong edit of code, to show that it is a wrong program
 #   make bench                     the time of lookups, match vectors, updates and messages beside calls
-#                                  written by hand in C, of lists beside single lookups, and the text
-#                                  program's beside the second program
+#                                  written by hand in C, of lists beside single lookups, on tables with one D
+#                                  and with a D for each length, and the text program's beside the second
+#                                  program
 #   make bench BEFORE=COMMIT       the time of all calls but change, clear and the writing of withdrawals
-#                                  beside those of an earlier commit's library, which is proved and built first
+#                                  beside those of an earlier commit's library, which is proved and built first;
+#                                  one up to 0.5, with one D for all lengths, only on tables that have one
 #   make clean                     removes target/, where all of this is built
 #
 # Needed are the kit's command rt on the PATH (but for make settings and make clean), gcc for all that
@@ -96,7 +99,7 @@ target/native.o: $(ARCHIVE) tools/native
 settings: target/settings
 	@target/settings $(SEED)
 
-target/settings: bench/settings.c bench/random.h
+target/settings: bench/settings.c bench/mixed.h bench/random.h
 	@mkdir -p target
 	@$(NATIVE_CC) $(WARNINGS) -O2 -o $@ bench/settings.c
 
@@ -151,17 +154,17 @@ bench: target/bench target/second
 	@bench/lines
 else
 bench: target/now.o
-	@bench/before '$(BEFORE)' target/before.o
+	@bench/before '$(BEFORE)' target/before.o > target/before.kind
 	@$(NATIVE_CC) $(WARNINGS) -O3 -Iinclude -Ibench -o target/bench-before bench/before.c bench/measure.c \
 	    target/before.o target/now.o
 	@[ '$(MEASURED)' = '$(ARCHIVE)' ] || echo 'both libraries are measured as compiled for this machine'
-	@target/bench-before '$(BEFORE)'
+	@target/bench-before '$(BEFORE)' "$$(cat target/before.kind)"
 endif
 
 target/now.o: $(MEASURED) tools/renamed
 	@tools/renamed $(MEASURED) now $@
 
-MEASURING = bench/measure.c bench/measure.h bench/calls.h bench/random.h include/gateway.h
+MEASURING = bench/measure.c bench/measure.h bench/mixed.h bench/calls.h bench/random.h include/gateway.h
 
 target/bench: bench/bench.c bench/table.c bench/table.h $(MEASURING) $(MEASURED)
 	$(NATIVE_CC) $(WARNINGS) -O3 -Iinclude -Ibench -o $@ bench/bench.c bench/table.c bench/measure.c $(MEASURED)

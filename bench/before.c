@@ -2,9 +2,10 @@
  * Measures the library beside that of an earlier commit: the same calls on the same tables, in turns within one
  * run. The earlier one's functions are called before_lookup and so on, this one's now_lookup. Every answer of
  * the two is compared, and after updates every byte. Who goes first changes from round to round, and who has
- * which memory. Messages are left out where the earlier library does not have them.
+ * which memory. Messages are left out where the earlier library does not have them, and so are tables with a D
+ * for each length. It is told whether the earlier one takes one D for all lengths, or a list.
  *
- *     before NAME
+ *     before NAME one-d|list
  */
 #include "measure.h"
 
@@ -20,7 +21,7 @@
     extern __typeof__(gateway_lookup_list) word##_lookup_list;                                     \
     extern __typeof__(gateway_update) word##_update __attribute__((weak));                         \
     extern __typeof__(gateway_write_withdrawal) word##_write_withdrawal __attribute__((weak));     \
-    static const struct calls word = CALLS_OF(word)
+    static struct calls word = CALLS_OF(word)
 
 LIBRARY(before);
 LIBRARY(now);
@@ -30,7 +31,7 @@ enum { BOTH = 2 };
 /* Both in turns within a round: i counts them, one is which. */
 #define IN_TURNS(i, one) for (int i = 0, one = round % BOTH; i < BOTH; i++, one = !one)
 
-static const struct calls *const libraries[BOTH] = {&before, &now};
+static struct calls *const libraries[BOTH] = {&before, &now};
 static answers given[BOTH];
 static results listed[BOTH];
 
@@ -54,17 +55,17 @@ static void measure_questions(const struct table *t)
     for (int round = 0; round < ROUNDS; round++) {
         const struct memory *m = &memory[round % BOTH];
         IN_TURNS (i, one)
-            ask_each(&vector[one], t, m, libraries[one]->match_vector, given[one]);
+            ask_each(&vector[one], t, m, libraries[one], libraries[one]->match_vector, given[one]);
         check_answers(ADDRESSES, "a match vector");
         IN_TURNS (i, one)
-            ask_each(&lookup[one], t, m, libraries[one]->lookup, given[one]);
+            ask_each(&lookup[one], t, m, libraries[one], libraries[one]->lookup, given[one]);
         check_answers(ADDRESSES, "a lookup");
         IN_TURNS (i, one)
-            ask_lists(&short_list[one], t, m, libraries[one]->lookup_list, SHORT_LIST, listed[one]);
+            ask_lists(&short_list[one], t, m, libraries[one], SHORT_LIST, listed[one]);
         check_results(listed[0], given[0]);
         check_results(listed[1], given[0]);
         IN_TURNS (i, one)
-            ask_lists(&long_list[one], t, m, libraries[one]->lookup_list, LONG_LIST, listed[one]);
+            ask_lists(&long_list[one], t, m, libraries[one], LONG_LIST, listed[one]);
         check_results(listed[0], given[0]);
         check_results(listed[1], given[0]);
     }
@@ -108,7 +109,7 @@ static void measure_messages(const struct table *t)
         double ns[BOTH][TELLINGS] = {{0}};
         for (int round = 0; round < ROUNDS; round++) {
             IN_TURNS (turn, one)
-                tell_each(ns[one], t, &memory[turn], libraries[one]->update, given[one]);
+                tell_each(ns[one], t, &memory[turn], libraries[one], given[one]);
             check_answers(TELLINGS * TIMES_TOLD * messages, "a message");
             check_memory(&memory[0], &memory[1]);
         }
@@ -122,29 +123,34 @@ static void measure_messages(const struct table *t)
     take_back(&memory[1]);
 }
 
+static void measure(void (*each)(const struct table *), const struct table *tables, int many)
+{
+    for (int i = 0; i < many; i++) {
+        if (tables[i].d == BY_LENGTH && before.one_d)
+            continue;
+        each(&tables[i]);
+        fflush(stdout);
+    }
+}
+
 int main(int argc, char **argv)
 {
-    if (argc != 2) {
-        fprintf(stderr, "usage: before NAME; make bench BEFORE=COMMIT runs it\n");
+    if (argc != 3) {
+        fprintf(stderr, "usage: before NAME one-d|list; make bench BEFORE=COMMIT runs it\n");
         return 2;
     }
+    before.one_d = strcmp(argv[2], "one-d") == 0;
     printf("before: the library of %s; now: that of the tree as it stands; ratio: now over before\n", argv[1]);
     printf("nanoseconds to a call, or to an address of a list, best of %d rounds over %d addresses or %d routes\n",
            ROUNDS, ADDRESSES, TURNS);
-    printf("offered, stored: routes; short and long: lists of %d and of %d\n\n", SHORT_LIST, LONG_LIST);
+    printf("offered, stored: routes; short and long: lists of %d and of %d\n", SHORT_LIST, LONG_LIST);
+    printf("%s\n\n", before.one_d ? "the library before takes one D for all lengths, now it is a list of 32"
+                                 : "D *: each length has the D that suits its routes, else all have the same");
     printf("offered  stored  K  D E S                          before ns  now ns  ratio\n");
-    for (int i = 0; i < TABLES; i++) {
-        measure_questions(&asked[i]);
-        fflush(stdout);
-    }
-    for (int i = 0; i < TABLES; i++) {
-        measure_updates(&updated[i]);
-        fflush(stdout);
-    }
-    for (int i = 0; i < TABLES - 1 && before.update != NULL; i++) {
-        measure_messages(&updated[i]);
-        fflush(stdout);
-    }
+    measure(measure_questions, asked, TABLES);
+    measure(measure_updates, updated, TABLES);
+    if (before.update != NULL)
+        measure(measure_messages, updated, TOLD_TABLES);
     printf("\nevery answer agrees, and every byte\n");
     return 0;
 }

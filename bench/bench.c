@@ -23,10 +23,10 @@ static void measure_lookups(const struct table *t)
 
     double hand_ns = 0, unrolled_ns = 0, turn_ns = 0, proved_ns = 0;
     for (int round = 0; round < ROUNDS; round++) {
-        ask_each(&hand_ns, t, &second, hand.lookup, by_hand);
-        ask_each(&proved_ns, t, &second, proved.lookup, by_proof);
-        ask_each(&unrolled_ns, t, &second, hand_lookup_unrolled, unrolled);
-        ask_each(&turn_ns, t, &second, hand_lookup_in_turn, by_turns);
+        ask_each(&hand_ns, t, &second, &hand, hand.lookup, by_hand);
+        ask_each(&proved_ns, t, &second, &proved, proved.lookup, by_proof);
+        ask_each(&unrolled_ns, t, &second, &hand, hand_lookup_unrolled, unrolled);
+        ask_each(&turn_ns, t, &second, &hand, hand_lookup_in_turn, by_turns);
     }
     check(memcmp(by_hand, by_proof, sizeof by_proof) == 0, "a lookup");
     check(memcmp(unrolled, by_proof, sizeof by_proof) == 0, "a lookup");
@@ -52,8 +52,8 @@ static void measure_vectors(const struct table *t)
 
     double hand_ns = 0, proved_ns = 0;
     for (int round = 0; round < ROUNDS; round++) {
-        ask_each(&hand_ns, t, &second, hand.match_vector, by_hand);
-        ask_each(&proved_ns, t, &second, proved.match_vector, by_proof);
+        ask_each(&hand_ns, t, &second, &hand, hand.match_vector, by_hand);
+        ask_each(&proved_ns, t, &second, &proved, proved.match_vector, by_proof);
     }
     check(memcmp(by_hand, by_proof, sizeof by_proof) == 0, "a match vector");
 
@@ -105,13 +105,13 @@ static void measure_messages(const struct table *t)
         size_t messages = make_messages(message_routes[i]);
         double hand_ns[TELLINGS] = {0}, proved_ns[TELLINGS] = {0};
         for (int round = 0; round < ROUNDS; round++) {
-            tell_each(hand_ns, t, &first, hand.update, by_hand);
-            tell_each(proved_ns, t, &second, proved.update, by_proof);
+            tell_each(hand_ns, t, &first, &hand, by_hand);
+            tell_each(proved_ns, t, &second, &proved, by_proof);
             check_updates(TELLINGS * TIMES_TOLD * messages, &first, &second);
         }
         for (int j = 0; j < TELLINGS; j++) {
-            tell((enum telling)j, t, &first, hand.update, by_hand);
-            tell((enum telling)j, t, &second, proved.update, by_proof);
+            tell((enum telling)j, t, &first, &hand, by_hand);
+            tell((enum telling)j, t, &second, &proved, by_proof);
             check_updates(messages, &first, &second);
         }
         print_table(t, many);
@@ -132,10 +132,10 @@ static void measure_lists(const struct table *t)
 
     double single_ns = 0, short_ns = 0, long_ns = 0;
     for (int round = 0; round < ROUNDS; round++) {
-        ask_each(&single_ns, t, &second, proved.lookup, by_proof);
-        ask_lists(&short_ns, t, &second, proved.lookup_list, SHORT_LIST, listed);
+        ask_each(&single_ns, t, &second, &proved, proved.lookup, by_proof);
+        ask_lists(&short_ns, t, &second, &proved, SHORT_LIST, listed);
         check_results(listed, by_proof);
-        ask_lists(&long_ns, t, &second, proved.lookup_list, LONG_LIST, listed);
+        ask_lists(&long_ns, t, &second, &proved, LONG_LIST, listed);
         check_results(listed, by_proof);
     }
     print_table(t, many);
@@ -158,7 +158,8 @@ int main(void)
     printf("nanoseconds to a lookup, best of %d rounds over %d addresses\n", ROUNDS, ADDRESSES);
     printf("hand: the same scheme in C; unrolled: in C, with its loop over the lengths unrolled; in turn: in C,\n");
     printf("with a filter asked only when its length's turn comes\n");
-    printf("offered, stored: routes; probes: buckets searched to a lookup; default: how many take the default route\n");
+    printf("offered, stored: routes; D *: each length has the D that suits its routes, else all have the same\n");
+    printf("probes: buckets searched to a lookup; default: how many take the default route\n");
     printf("ratio: the proved time over hand's, over unrolled's and over in turn's\n\n");
     printf("offered  stored  K  D E S  probes  default  hand ns  proved ns  ratio  unrolled  ratio  in turn  ratio\n");
     measure(measure_lookups, asked, TABLES);
@@ -179,7 +180,7 @@ int main(void)
     printf("millions: so many routes a second, announced and withdrawn ones together\n\n");
     printf("                                   announced                  withdrawn                  millions\n");
     printf("offered  stored  K  D E S  routes  hand ns  proved ns  ratio  hand ns  proved ns  ratio    hand  proved\n");
-    measure(measure_messages, updated, TABLES - 1);
+    measure(measure_messages, updated, TOLD_TABLES);
     printf("\nnanoseconds to an address, best of %d rounds over %d addresses\n", ROUNDS, ADDRESSES);
     printf("single: a call to each; short and long: a call to each list of %d and of %d\n\n", SHORT_LIST, LONG_LIST);
     printf("offered  stored  K  D E S  single ns  short ns  ratio  long ns  ratio\n");

@@ -13,13 +13,14 @@ struct calls {
     __typeof__(gateway_lookup_list) *lookup_list;
     __typeof__(gateway_update) *update;
     __typeof__(gateway_write_withdrawal) *write_withdrawal;
+    int one_d; /* whether they are of a library up to 0.5, which takes one D for all lengths */
 };
 
 /* Those whose names begin with a word. */
 #define CALLS_OF(word)                                                                             \
     {                                                                                              \
         word##_clear, word##_add, word##_withdraw, word##_change, word##_lookup, word##_match_vector, \
-            word##_lookup_list, word##_update, word##_write_withdrawal                             \
+            word##_lookup_list, word##_update, word##_write_withdrawal, 0                          \
     }
 
 #endif

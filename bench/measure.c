@@ -2,6 +2,7 @@
 #define _POSIX_C_SOURCE 199309L
 
 #include "measure.h"
+#include "mixed.h"
 #include "random.h"
 
 #include <stdio.h>
@@ -10,26 +11,20 @@
 #include <time.h>
 
 const struct table asked[TABLES] = {
-    {90, 4, 8, 5, 4},
-    {2000, 2, 11, 8, 8},
-    {6000, 2, 11, 8, 8},
+    {90, 4, 8, 5, 4},    {90, 4, BY_LENGTH, 5, 4},
+    {2000, 2, 11, 8, 8}, {2000, 2, BY_LENGTH, 8, 8},
+    {6000, 2, 11, 8, 8}, {6000, 2, BY_LENGTH, 8, 8},
 };
 
 const struct table updated[TABLES] = {
-    {90, 4, 11, 8, 8},
-    {2000, 4, 11, 8, 8},
-    {6000, 4, 11, 8, 8},
+    {90, 4, 11, 8, 8},   {90, 4, BY_LENGTH, 8, 8},
+    {2000, 4, 11, 8, 8}, {2000, 4, BY_LENGTH, 8, 8},
+    {6000, 4, 11, 8, 8}, {6000, 4, BY_LENGTH, 8, 8},
 };
 
 const size_t message_routes[SIZES] = {1, 10, TOLD};
 
 static const uint32_t a = 0x9e3779b1, b = 0x85ebca6b, c = 0xc2b2ae35;
-
-/* How many of a thousand routes have each length, about as in a full table of the open network. */
-static const uint32_t share[33] = {
-    [8] = 1,   [9] = 1,   [10] = 1,  [11] = 1,  [12] = 1,  [13] = 1,   [14] = 2,   [15] = 2,  [16] = 15,
-    [17] = 9,  [18] = 14, [19] = 26, [20] = 44, [21] = 52, [22] = 115, [23] = 100, [24] = 615,
-};
 
 enum { MOST_ROUTES = 6000 };
 
@@ -40,18 +35,16 @@ static struct route {
 /* What is asked, and which of the stored routes each update is about. */
 static uint32_t addresses[ADDRESSES], turns[TURNS];
 
-/* What every call is lent of table t. */
-#define SETTINGS t->k, t->d, t->e, t->s, a, b, c
-#define LENT(m) SETTINGS, (m)->counters, (m)->bytes, (m)->slots, (m)->words
-#define ASKED(m) SETTINGS, (m)->counters, (m)->bytes, (const uint8_t *)(m)->slots, 4 * (m)->words
+/* The memory of a table, for updates and for questions. */
+#define WORDS(m) (m)->counters, (m)->bytes, (m)->slots, (m)->words
+#define BYTES(m) (m)->counters, (m)->bytes, (const uint8_t *)(m)->slots, 4 * (m)->words
 
-static uint32_t random_length(void)
-{
-    uint32_t left = random_below(1000), length = 8;
-    while (left >= share[length])
-        left -= share[length++];
-    return length;
-}
+/* A call of calls on table t: with the list of D, or with one D where a library takes that, which gateway.h has no
+   type for. */
+typedef uint64_t one_d_call();
+#define CALL(calls, call, m, ...)                                                                  \
+    ((calls)->one_d ? ((one_d_call *)(call))(t->k, t->d, t->e, t->s, a, b, c, __VA_ARGS__)         \
+                    : (call)(t->k, (m)->d, GATEWAY_LENGTHS, t->e, t->s, a, b, c, __VA_ARGS__))
 
 static int has_route(uint32_t many, uint32_t prefix, uint32_t length)
 {
@@ -96,8 +89,16 @@ static void *lend(size_t size)
 
 struct memory lend_table(const struct table *t)
 {
-    size_t bytes = gateway_counters_bytes(t->d), words = gateway_slots_words(t->e, t->s);
-    return (struct memory){lend(bytes), lend(4 * words), bytes, words};
+    struct memory m;
+    if (t->d == BY_LENGTH)
+        choose_filters(m.d, t->routes, GOOD_COUNTERS);
+    else
+        memset(m.d, (int)t->d, sizeof m.d);
+    m.bytes = gateway_counters_bytes(m.d, GATEWAY_LENGTHS);
+    m.words = gateway_slots_words(t->e, t->s);
+    m.counters = lend(m.bytes);
+    m.slots = lend(4 * m.words);
+    return m;
 }
 
 void take_back(const struct memory *m)
@@ -136,15 +137,20 @@ static uint32_t same(uint64_t one, uint64_t other)
 }
 
 /* A call of both tables that writes, and the number it gives. */
-#define UPDATE(call, ...) same(one->call(LENT(first), __VA_ARGS__), other->call(LENT(second), __VA_ARGS__))
+#define UPDATE(call, ...)                                                                          \
+    same(CALL(one, one->call, first, WORDS(first), __VA_ARGS__),                                   \
+         CALL(other, other->call, second, WORDS(second), __VA_ARGS__))
 
 /* Some routes are withdrawn and added again, the others replaced, and all are changed, as in a table that has
-   been used. */
+   been used. Tables of as many routes are offered the same ones. */
 uint32_t fill(const struct table *t, const struct calls *one, const struct memory *first, const struct calls *other,
               const struct memory *second)
 {
+    random_state = t->routes;
     make_routes(t->routes);
-    check(same(one->clear(LENT(first)), other->clear(LENT(second))) == GATEWAY_OK, "clear");
+    check(same(CALL(one, one->clear, first, WORDS(first)), CALL(other, other->clear, second, WORDS(second))) ==
+              GATEWAY_OK,
+          "clear");
     for (uint32_t i = 0; i < t->routes; i++)
         UPDATE(add, routes[i].prefix, routes[i].length, 0);
     for (uint32_t i = 0; i < t->routes; i += 3)
@@ -180,24 +186,24 @@ static void keep_best(double *best, double start, double calls)
     keep_least(best, (nanoseconds() - start) / calls);
 }
 
-void ask_each(double *best, const struct table *t, const struct memory *m, __typeof__(gateway_lookup) *call,
-              answers given)
+void ask_each(double *best, const struct table *t, const struct memory *m, const struct calls *calls,
+              __typeof__(gateway_lookup) *call, answers given)
 {
     double start = nanoseconds();
     for (size_t i = 0; i < ADDRESSES; i++)
-        given[i] = call(ASKED(m), addresses[i]);
+        given[i] = CALL(calls, call, m, BYTES(m), addresses[i]);
     keep_best(best, start, ADDRESSES);
 }
 
-void ask_lists(double *best, const struct table *t, const struct memory *m,
-               __typeof__(gateway_lookup_list) *call, size_t many, results given)
+void ask_lists(double *best, const struct table *t, const struct memory *m, const struct calls *calls, size_t many,
+               results given)
 {
     uint64_t refused = 0;
     memset(given, 0xa5, sizeof(results));
     double start = nanoseconds();
     for (size_t i = 0; i < ADDRESSES; i += many)
-        refused |= call(ASKED(m), (const uint8_t *)&addresses[i], many * sizeof addresses[0], (uint8_t *)&given[i],
-                        many * sizeof given[0]);
+        refused |= CALL(calls, calls->lookup_list, m, BYTES(m), (const uint8_t *)&addresses[i],
+                        many * sizeof addresses[0], (uint8_t *)&given[i], many * sizeof given[0]);
     keep_best(best, start, ADDRESSES);
     check(refused == 0, "a list");
 }
@@ -208,8 +214,8 @@ void withdraw_and_add(double *best, const struct table *t, const struct memory *
     double start = nanoseconds();
     for (size_t i = 0; i < TURNS; i++) {
         const struct route *r = &stored[turns[i]];
-        given[2 * i] = calls->withdraw(LENT(m), r->prefix, r->length);
-        given[2 * i + 1] = calls->add(LENT(m), r->prefix, r->length, r->hop);
+        given[2 * i] = CALL(calls, calls->withdraw, m, WORDS(m), r->prefix, r->length);
+        given[2 * i + 1] = CALL(calls, calls->add, m, WORDS(m), r->prefix, r->length, r->hop);
     }
     keep_best(best, start, 2 * TURNS);
 }
@@ -221,7 +227,7 @@ void replace(double *best, const struct table *t, const struct memory *m, const 
     double start = nanoseconds();
     for (uint32_t i = 0; i < TURNS; i++) {
         const struct route *r = &stored[turns[i]];
-        given[i] = calls->add(LENT(m), r->prefix, r->length, (r->hop + 1 + i) % 65536);
+        given[i] = CALL(calls, calls->add, m, WORDS(m), r->prefix, r->length, (r->hop + 1 + i) % 65536);
     }
     keep_best(best, start, TURNS);
     for (size_t i = 0; i < TURNS; i++)
@@ -321,23 +327,24 @@ size_t make_messages(size_t many)
     return streams[ANNOUNCED].messages;
 }
 
-double tell(enum telling telling, const struct table *t, const struct memory *m, __typeof__(gateway_update) *call,
+double tell(enum telling telling, const struct table *t, const struct memory *m, const struct calls *calls,
             uint64_t *given)
 {
     const struct stream *s = &streams[telling];
     double start = nanoseconds();
     for (size_t i = 0; i < s->messages; i++)
-        given[i] = call(LENT(m), s->bytes + s->start[i], s->start[i + 1] - s->start[i], next_hops, HOPS);
+        given[i] = CALL(calls, calls->update, m, WORDS(m), s->bytes + s->start[i], s->start[i + 1] - s->start[i],
+                        next_hops, (size_t)HOPS);
     return nanoseconds() - start;
 }
 
-void tell_each(double best[TELLINGS], const struct table *t, const struct memory *m,
-               __typeof__(gateway_update) *call, answers given)
+void tell_each(double best[TELLINGS], const struct table *t, const struct memory *m, const struct calls *calls,
+               answers given)
 {
     uint64_t *at = given;
     for (size_t i = 0; i < TIMES_TOLD; i++)
         for (int telling = 0; telling < TELLINGS; telling++) {
-            keep_least(&best[telling], tell((enum telling)telling, t, m, call, at) / TOLD);
+            keep_least(&best[telling], tell((enum telling)telling, t, m, calls, at) / TOLD);
             at += streams[telling].messages;
         }
     for (const uint64_t *answer = given; answer < at; answer++)
@@ -346,6 +353,9 @@ void tell_each(double best[TELLINGS], const struct table *t, const struct memory
 
 void print_table(const struct table *t, uint32_t many)
 {
-    printf("%7u  %6u  %u %2u %u %u", (unsigned)t->routes, (unsigned)many, (unsigned)t->k,
-           (unsigned)t->d, (unsigned)t->e, (unsigned)t->s);
+    char d[12] = " *";
+    if (t->d != BY_LENGTH)
+        snprintf(d, sizeof d, "%2u", (unsigned)t->d);
+    printf("%7u  %6u  %u %s %u %u", (unsigned)t->routes, (unsigned)many, (unsigned)t->k, d, (unsigned)t->e,
+           (unsigned)t->s);
 }

@@ -10,17 +10,23 @@
 #include <stddef.h>
 #include <stdint.h>
 
-enum { ADDRESSES = 1000000, TURNS = 100000, ROUNDS = 9, TABLES = 3, SHORT_LIST = 64, LONG_LIST = 1000 };
+enum { ADDRESSES = 1000000, TURNS = 100000, ROUNDS = 9, TABLES = 6, SHORT_LIST = 64, LONG_LIST = 1000 };
 
-/* A neighbour tells so many routes, so many times a round, by messages of one of so many sizes. */
-enum { TOLD = 500, TIMES_TOLD = 100, SIZES = 3 };
+/* A neighbour tells so many routes, so many times a round, by messages of one of so many sizes, to the first of
+   the tables that are updated: the others have no room for them. */
+enum { TOLD = 500, TIMES_TOLD = 100, SIZES = 3, TOLD_TABLES = 4 };
 
-/* So many routes are offered, and what the buckets have room for is stored. */
+/* So many routes are offered, and what the buckets have room for is stored. All lengths have the same D, or each
+   has the one that suits its routes, which is printed as '*'. */
 struct table {
     uint32_t routes, k, d, e, s;
 };
 
+enum { BY_LENGTH = 0 };
+
+/* What is lent: the D of each length, counters and slots. */
 struct memory {
+    uint8_t d[GATEWAY_LENGTHS];
     uint8_t *counters;
     uint32_t *slots;
     size_t bytes, words;
@@ -44,20 +50,19 @@ void take_back(const struct memory *m);
 uint32_t fill(const struct table *t, const struct calls *one, const struct memory *first, const struct calls *other,
               const struct memory *second);
 
-/* These keep the best nanoseconds a call so far, in *best: all addresses by single calls; all of them by lists
-   of so many, which must divide them, to an address; each route withdrawn and added again; and each added with
-   another hop than it has. */
-void ask_each(double *best, const struct table *t, const struct memory *m, __typeof__(gateway_lookup) *call,
-              answers given);
-void ask_lists(double *best, const struct table *t, const struct memory *m,
-               __typeof__(gateway_lookup_list) *call, size_t many, results given);
+/* These keep the best nanoseconds a call so far, in *best: all addresses by single calls of one of the questions,
+   which takes its settings as calls do; all of them by lists of so many, which must divide them, to an address;
+   each route withdrawn and added again; and each added with another hop than it has. */
+void ask_each(double *best, const struct table *t, const struct memory *m, const struct calls *calls,
+              __typeof__(gateway_lookup) *call, answers given);
+void ask_lists(double *best, const struct table *t, const struct memory *m, const struct calls *calls, size_t many,
+               results given);
 void withdraw_and_add(double *best, const struct table *t, const struct memory *m, const struct calls *calls,
                       answers given);
 void replace(double *best, const struct table *t, const struct memory *m, const struct calls *calls,
              answers given);
 
-/* Chooses TOLD routes of length 24 that both tables have room for besides those stored: the last of the updated
-   ones has not. */
+/* Chooses TOLD routes of length 24 that both tables have room for besides those stored. */
 void choose_told(const struct table *t, const struct calls *one, const struct memory *first,
                  const struct calls *other, const struct memory *second);
 
@@ -67,18 +72,19 @@ size_t make_messages(size_t many);
 
 /* What all those messages take in nanoseconds. */
 enum telling { ANNOUNCED, WITHDRAWN, TELLINGS };
-double tell(enum telling telling, const struct table *t, const struct memory *m, __typeof__(gateway_update) *call,
+double tell(enum telling telling, const struct table *t, const struct memory *m, const struct calls *calls,
             uint64_t *given);
 
 /* Announces and withdraws them by turns, and keeps the best nanoseconds a route of either. */
-void tell_each(double best[TELLINGS], const struct table *t, const struct memory *m,
-               __typeof__(gateway_update) *call, answers given);
+void tell_each(double best[TELLINGS], const struct table *t, const struct memory *m, const struct calls *calls,
+               answers given);
 
 /* End the program where two that should agree do not. */
 void check(int agrees, const char *what);
 void check_memory(const struct memory *one, const struct memory *other);
 void check_results(const results listed, const answers single);
 
+/* Offered and stored routes, K, D, E and S. */
 void print_table(const struct table *t, uint32_t many);
 
 #endif

@@ -5,8 +5,9 @@
  *     settings [SEED]
  *
  * The rules are modelled here once more, as plainly as C allows and without the library. A length has
- * a filter and buckets of its own, so a table is modelled by the lengths that have routes.
+ * a filter of its own size and buckets of its own, so a table is modelled by the lengths that have routes.
  */
+#include "mixed.h"
 #include "random.h"
 
 #include <stdint.h>
@@ -16,13 +17,14 @@
 
 enum { MOST_COUNTERS = 2048, MOST_BUCKETS = 256, MOST_SLOTS = 8 };
 
+/* The d of all lengths, where they have the same. */
 struct settings {
     uint32_t k, d, e, s, a, b, c;
 };
 
-/* A length: its filter, and its buckets with how many of their slots are occupied. */
+/* A length: its filter of 2^d counters, and its buckets with how many of their slots are occupied. */
 struct row {
-    uint32_t length;
+    uint32_t length, d;
     uint8_t counters[MOST_COUNTERS];
     uint32_t occupied[MOST_BUCKETS];
     uint32_t prefixes[MOST_BUCKETS][MOST_SLOTS];
@@ -45,9 +47,10 @@ static uint32_t bucket_of(const struct settings *t, uint32_t prefix)
     return t->e == 0 ? 0 : t->c * prefix >> (32 - t->e);
 }
 
-static void clear(struct row *row, uint32_t length)
+static void clear(struct row *row, uint32_t length, uint32_t d)
 {
     row->length = length;
+    row->d = d;
     memset(row->counters, 0, sizeof row->counters);
     memset(row->occupied, 0, sizeof row->occupied);
 }
@@ -65,7 +68,7 @@ static int claims(const struct settings *t, const struct row *row, uint32_t pref
 {
     uint32_t g = t->a * prefix;
     for (uint32_t i = 0; i < t->k; i++, g += t->b * prefix)
-        if (row->counters[g >> (32 - t->d)] == 0)
+        if (row->counters[g >> (32 - row->d)] == 0)
             return 0;
     return 1;
 }
@@ -76,7 +79,7 @@ static int move_counters(const struct settings *t, struct row *row, uint32_t pre
     int within = 1;
     uint32_t g = t->a * prefix;
     for (uint32_t i = 0; i < t->k; i++, g += t->b * prefix) {
-        uint8_t *counter = &row->counters[g >> (32 - t->d)];
+        uint8_t *counter = &row->counters[g >> (32 - row->d)];
         *counter = (uint8_t)(*counter + by);
         within = within && *counter <= 15;
     }
@@ -100,21 +103,20 @@ static uint32_t add(const struct settings *t, struct row *row, uint32_t prefix)
 /* ---- random tables */
 
 /* Adds a random prefix that is not stored. */
-static uint32_t add_random(const struct settings *t, struct row *row)
+static uint32_t add_random(const struct settings *t, struct row *row, uint32_t *prefix)
 {
-    uint32_t prefix;
     do
-        prefix = prefix_of(random_word(), row->length);
-    while (holds(t, row, prefix));
-    return add(t, row, prefix);
+        *prefix = prefix_of(random_word(), row->length);
+    while (holds(t, row, *prefix));
+    return add(t, row, *prefix);
 }
 
 /* How many random routes a cleared length takes, up to most, before it refuses one. */
 static uint32_t fill(const struct settings *t, struct row *row, uint32_t length, uint32_t most)
 {
-    uint32_t routes = 0;
-    clear(row, length);
-    while (routes < most && add_random(t, row) == ACCEPTED)
+    uint32_t routes = 0, prefix;
+    clear(row, length, t->d);
+    while (routes < most && add_random(t, row, &prefix) == ACCEPTED)
         routes++;
     return routes;
 }
@@ -141,13 +143,15 @@ static uint32_t random_address(const struct row *row)
     do
         bucket = random_below(MOST_BUCKETS);
     while (row->occupied[bucket] == 0);
-    return row->prefixes[bucket][random_below(row->occupied[bucket])] | random_word() >> row->length;
+    uint32_t prefix = row->prefixes[bucket][random_below(row->occupied[bucket])];
+    return prefix | random_word() >> row->length;
 }
 
-static uint32_t probes_of(const struct settings *t, const struct row *rows, uint32_t address)
+/* The probes of a lookup where so many lengths are in use, longest first. */
+static uint32_t probes_of(const struct settings *t, const struct row *rows, size_t lengths, uint32_t address)
 {
     uint32_t probes = 0;
-    for (size_t i = 0; i < IN_USE; i++) {
+    for (size_t i = 0; i < lengths; i++) {
         uint32_t prefix = prefix_of(address, rows[i].length);
         probes += (uint32_t)claims(t, &rows[i], prefix);
         if (holds(t, &rows[i], prefix))
@@ -167,16 +171,79 @@ static double average_probes(const struct settings *t, uint32_t routes)
         while (full < IN_USE && fill(t, &rows[full], in_use[full], routes) == routes)
             full++;
         for (uint32_t j = 0; full == IN_USE && j < ADDRESSES; j++, asked++)
-            probes += probes_of(t, rows, random_address(&rows[random_below(IN_USE)]));
+            probes += probes_of(t, rows, IN_USE, random_address(&rows[random_below(IN_USE)]));
     }
     return asked == 0 ? 0 : (double)probes / (double)asked;
+}
+
+/* ---- mixed tables */
+
+/* The lengths that mixed routes have, longest first, with an address within each route that is stored. */
+enum { LONGEST = 24, SHORTEST = 8, MIXED = LONGEST - SHORTEST + 1, MOST_MIXED = 5000, NUMBERS = COUNTER_FULL + 1 };
+
+struct mixed {
+    struct row rows[MIXED];
+    uint32_t stored, addresses[MOST_MIXED];
+};
+
+/* Adds so many mixed routes to a cleared table, keeps an address within each that is stored, and counts the
+   numbers that the adds give. */
+static void fill_mixed(const struct settings *t, const uint8_t d[LENGTHS], uint32_t routes, struct mixed *mixed,
+                       uint32_t numbers[NUMBERS])
+{
+    mixed->stored = 0;
+    for (uint32_t i = 0; i < MIXED; i++)
+        clear(&mixed->rows[i], LONGEST - i, d[LONGEST - i - 1]);
+    for (uint32_t i = 0; i < routes; i++) {
+        uint32_t length = random_length(), prefix;
+        struct row *row = &mixed->rows[LONGEST - length];
+        uint32_t number = add_random(t, row, &prefix);
+        numbers[number]++;
+        if (number == ACCEPTED)
+            mixed->addresses[mixed->stored++] = prefix | random_word() >> length;
+    }
+}
+
+/* What is measured of tables of mixed routes, on average: how many they refuse, by numbers, and the probes of
+   addresses within a route and of any addresses. */
+struct figures {
+    double refused[NUMBERS], within, any;
+};
+
+static struct figures measure_mixed(const struct settings *t, const uint8_t d[LENGTHS], uint32_t routes)
+{
+    enum { TABLES = 400 };
+    static struct mixed mixed;
+    uint32_t numbers[NUMBERS] = {0};
+    uint64_t within = 0, any = 0;
+    for (uint32_t i = 0; i < TABLES; i++) {
+        fill_mixed(t, d, routes, &mixed, numbers);
+        for (uint32_t j = 0; j < mixed.stored; j++) {
+            within += probes_of(t, mixed.rows, MIXED, mixed.addresses[j]);
+            any += probes_of(t, mixed.rows, MIXED, random_word());
+        }
+    }
+    struct figures figures;
+    for (size_t i = 0; i < NUMBERS; i++)
+        figures.refused[i] = (double)numbers[i] / TABLES;
+    figures.within = (double)within / numbers[ACCEPTED];
+    figures.any = (double)any / numbers[ACCEPTED];
+    return figures;
 }
 
 /* ---- what is printed */
 
 static uint32_t counters_bytes(const struct settings *t)
 {
-    return (uint32_t)32 << t->d;
+    return (uint32_t)LENGTHS << t->d;
+}
+
+static uint32_t listed_counters_bytes(const uint8_t d[LENGTHS])
+{
+    uint32_t sum = 0;
+    for (size_t i = 0; i < LENGTHS; i++)
+        sum += (uint32_t)1 << d[i];
+    return sum;
 }
 
 static uint32_t slots_bytes(const struct settings *t)
@@ -290,6 +357,82 @@ static void print_filters(void)
         }
 }
 
+/* ---- a D for each length */
+
+enum { SHOWN_ROUTES = 2000 };
+
+/* The last of the lengths, one after the other, that have as many of the mixed routes as one. */
+static uint32_t last_alike(uint32_t from)
+{
+    uint32_t last = from;
+    while (last < LENGTHS && per_thousand[last + 1] == per_thousand[from])
+        last++;
+    return last;
+}
+
+/* A column for lengths that have as many routes. */
+#define EACH_COLUMN(from, last)                                                                    \
+    for (uint32_t from = 1, last = last_alike(from); from <= LENGTHS; from = last + 1, last = last_alike(from))
+
+static void print_list(void)
+{
+    uint32_t columns = 1;
+    printf("\n| length |");
+    EACH_COLUMN (from, last) {
+        columns++;
+        printf(from == last ? " %u |" : " %u to %u |", (unsigned)from, (unsigned)last);
+    }
+    printf("\n|");
+    for (uint32_t i = 0; i < columns; i++)
+        printf("---|");
+    printf("\n| routes |");
+    EACH_COLUMN (from, last)
+        print_number(routes_of(from, SHOWN_ROUTES));
+    printf("\n| D |");
+    EACH_COLUMN (from, last)
+        print_number(smallest_d(routes_of(from, SHOWN_ROUTES), GOOD_COUNTERS));
+    printf("\n");
+}
+
+/* How the list is chosen is said by a number and words. */
+static void print_mixed(uint32_t routes, const struct settings *t, const uint8_t d[LENGTHS], uint32_t number,
+                        const char *words)
+{
+    char chosen[32];
+    struct figures figures = measure_mixed(t, d, routes);
+    snprintf(chosen, sizeof chosen, "%u %s", (unsigned)number, words);
+    printf("|");
+    print_number(routes);
+    printf(" %u | %u | %u | %-10s |", (unsigned)t->k, (unsigned)t->e, (unsigned)t->s, chosen);
+    print_number(listed_counters_bytes(d));
+    print_number(listed_counters_bytes(d) + slots_bytes(t));
+    printf(" %7.1f | %7.1f | %7.2f | %7.2f |\n", figures.refused[BUCKET_FULL], figures.refused[COUNTER_FULL],
+           figures.within, figures.any);
+}
+
+static void print_lists(void)
+{
+    static const char *const names[] = {"routes", "K", "E", "S", "D", "counters", "bytes", "refused 8",
+                                        "refused 9", "probes", "any"};
+    static const struct {
+        uint32_t routes;
+        struct settings t;
+    } tables[] = {{90, {4, 0, 7, 8, GOOD}}, {300, {4, 0, 8, 8, GOOD}}, {SHOWN_ROUTES, {2, 0, 8, 8, GOOD}}};
+    static const uint8_t equal[] = {11, 8}, counters[] = {4, 8, GOOD_COUNTERS, 32};
+    uint8_t d[LENGTHS];
+    print_head(names, MANY(names), NULL, 0);
+    for (size_t i = 0; i < MANY(tables); i++) {
+        for (size_t j = 0; j < MANY(equal); j++) {
+            memset(d, equal[j], sizeof d);
+            print_mixed(tables[i].routes, &tables[i].t, d, equal[j], "for all");
+        }
+        for (size_t j = 0; j < MANY(counters); j++) {
+            choose_filters(d, tables[i].routes, counters[j]);
+            print_mixed(tables[i].routes, &tables[i].t, d, counters[j], "a route");
+        }
+    }
+}
+
 /* ---- routes that follow a plan */
 
 enum { BRANCHES = 90 };
@@ -299,7 +442,7 @@ static uint32_t planned(const struct settings *t, uint32_t base, uint32_t length
 {
     static struct row row;
     uint32_t stored = 0;
-    clear(&row, length);
+    clear(&row, length, t->d);
     for (uint32_t i = 0; i < BRANCHES; i++)
         stored += add(t, &row, base + ((i / in_row * apart + i % in_row) << (32 - length))) == ACCEPTED;
     return stored;
@@ -350,28 +493,6 @@ static void print_multipliers(void)
 
 /* ---- where it ends */
 
-/* How many of a thousand routes have each length, about as in a full table of the open network. */
-static const uint32_t per_thousand[33] = {
-    [8] = 1,   [9] = 1,   [10] = 1,  [11] = 1,  [12] = 1,  [13] = 1,   [14] = 2,   [15] = 2,  [16] = 15,
-    [17] = 9,  [18] = 14, [19] = 26, [20] = 44, [21] = 52, [22] = 115, [23] = 100, [24] = 615,
-};
-
-/* How many of so many mixed routes the largest table refuses. */
-static uint32_t refused_of_mixed(const struct settings *t, uint32_t routes)
-{
-    static struct row rows[33];
-    uint32_t refused = 0;
-    for (uint32_t length = 8; length <= 24; length++)
-        clear(&rows[length], length);
-    for (uint32_t i = 0; i < routes; i++) {
-        uint32_t left = random_below(1000), length = 8;
-        while (left >= per_thousand[length])
-            left -= per_thousand[length++];
-        refused += add_random(t, &rows[length]) != ACCEPTED;
-    }
-    return refused;
-}
-
 struct spread {
     uint32_t runs, least, most;
     uint64_t sum;
@@ -401,21 +522,27 @@ static void print_end(void)
     static const struct {
         uint32_t routes;
         const char *what;
-    } mixed[] = {{1000, "of 1,000 mixed routes refused"},
-                 {2000, "of 2,000 mixed routes refused"},
-                 {5000, "of 5,000 mixed routes refused"}};
+    } offered[] = {{1000, "of 1,000 mixed routes refused"},
+                   {2000, "of 2,000 mixed routes refused"},
+                   {MOST_MIXED, "of 5,000 mixed routes refused"}};
     const struct settings largest = {2, 11, 8, 8, GOOD};
     static struct row row;
+    static struct mixed mixed;
+    uint8_t d[LENGTHS];
     struct spread first = {0, 0, 0, 0};
+    memset(d, (int)largest.d, sizeof d);
     print_head(names, MANY(names), NULL, 0);
     for (uint32_t i = 0; i < TABLES; i++)
         note(&first, fill(&largest, &row, 24, MOST_BUCKETS * MOST_SLOTS));
     print_spread("routes of one length before its first refusal", &first);
-    for (size_t i = 0; i < MANY(mixed); i++) {
+    for (size_t i = 0; i < MANY(offered); i++) {
         struct spread refused = {0, 0, 0, 0};
-        for (uint32_t j = 0; j < TABLES / 10; j++)
-            note(&refused, refused_of_mixed(&largest, mixed[i].routes));
-        print_spread(mixed[i].what, &refused);
+        for (uint32_t j = 0; j < TABLES / 10; j++) {
+            uint32_t numbers[NUMBERS] = {0};
+            fill_mixed(&largest, d, offered[i].routes, &mixed, numbers);
+            note(&refused, offered[i].routes - mixed.stored);
+        }
+        print_spread(offered[i].what, &refused);
     }
 }
 
@@ -432,6 +559,8 @@ int main(int argc, char **argv)
     print_ready();
     print_buckets();
     print_filters();
+    print_list();
+    print_lists();
     print_multipliers();
     print_end();
     return fflush(stdout) != 0 || ferror(stdout);

@@ -5,8 +5,14 @@
 
 #define REFUSED(number) ((uint64_t)(number) << 48)
 
+enum { LENGTHS = 32 };
+
+/* The filter of length L has 2^d[L - 1] counters. */
 struct settings {
-    uint32_t k, d, e, s, a, b, c;
+    uint32_t k;
+    const uint8_t *d;
+    size_t d_count;
+    uint32_t e, s, a, b, c;
 };
 
 static uint32_t prefix_of(uint32_t length, uint32_t address)
@@ -33,11 +39,27 @@ static uint32_t word(const uint8_t *slots, size_t i)
     return w;
 }
 
+/* How many counters the filters have together, or 0 where a value is not of 4 to 11. The loop goes to its end
+   in any case, so that the compiler can take many values at once. */
+static inline size_t counters_of(const uint8_t *d)
+{
+    uint32_t sum = 0;
+    uint8_t above = 0;
+    for (int i = 0; i < LENGTHS; i++) {
+        above |= (uint8_t)(d[i] - 4) & 0xf8;
+        sum += 1u << (d[i] & 15);
+    }
+    return above == 0 ? sum : 0;
+}
+
 static uint64_t refuse_memory(const struct settings *t, size_t counters_bytes, size_t slots_words)
 {
-    if (t->k < 1 || t->k > 8 || t->d < 4 || t->d > 11 || t->e > 8 || t->s < 1 || t->s > 8)
+    if (t->k < 1 || t->k > 8 || t->d_count != LENGTHS || t->e > 8 || t->s < 1 || t->s > 8)
         return 1;
-    if (counters_bytes != (size_t)32 << t->d || slots_words != ((size_t)64 << t->e) * t->s + 1)
+    size_t counters = counters_of(t->d);
+    if (counters == 0)
+        return 1;
+    if (counters_bytes != counters || slots_words != ((size_t)64 << t->e) * t->s + 1)
         return 2;
     return 0;
 }
@@ -82,13 +104,23 @@ static struct found search(const struct settings *t, const uint32_t *slots, uint
     return found;
 }
 
-/* The K counters of p; the answer is how many there are. */
-static uint32_t places(const struct settings *t, uint32_t length, uint32_t p, size_t place[8])
+/* Where a length's filter starts. Most routes are long, so the filters are counted off from the end. */
+static size_t start_of(const struct settings *t, size_t counters_bytes, uint32_t length)
 {
-    size_t start = ((size_t)length - 1) << t->d;
-    uint32_t g = t->a * p, growth = t->b * p;
+    size_t start = counters_bytes;
+    for (uint32_t l = LENGTHS; l >= length; l--)
+        start -= (size_t)1 << t->d[l - 1];
+    return start;
+}
+
+/* The K counters of p; the answer is how many there are. */
+static uint32_t places(const struct settings *t, size_t counters_bytes, uint32_t length, uint32_t p,
+                       size_t place[8])
+{
+    size_t start = start_of(t, counters_bytes, length);
+    uint32_t g = t->a * p, growth = t->b * p, d = t->d[length - 1];
     for (uint32_t i = 0; i < t->k; i++) {
-        place[i] = start + (g >> (32 - t->d));
+        place[i] = start + (g >> (32 - d));
         g += growth;
     }
     return t->k;
@@ -102,11 +134,11 @@ static uint32_t hits(const size_t *place, uint32_t many, size_t at)
     return n;
 }
 
-uint64_t hand_clear(uint32_t k, uint32_t d, uint32_t e, uint32_t s, uint32_t a, uint32_t b,
-                    uint32_t c, uint8_t *counters, size_t counters_bytes, uint32_t *slots,
-                    size_t slots_words)
+uint64_t hand_clear(uint32_t k, const uint8_t *d, size_t d_count, uint32_t e, uint32_t s,
+                    uint32_t a, uint32_t b, uint32_t c, uint8_t *counters, size_t counters_bytes,
+                    uint32_t *slots, size_t slots_words)
 {
-    const struct settings t = {k, d, e, s, a, b, c};
+    const struct settings t = {k, d, d_count, e, s, a, b, c};
     uint64_t refusal = refuse_memory(&t, counters_bytes, slots_words);
     if (refusal != 0)
         return REFUSED(refusal);
@@ -116,8 +148,9 @@ uint64_t hand_clear(uint32_t k, uint32_t d, uint32_t e, uint32_t s, uint32_t a, 
 }
 
 /* An add and a withdrawal whose arguments are in their ranges; the answer is the number. */
-static inline uint64_t add(const struct settings *t, uint8_t *counters, uint32_t *slots, size_t slots_words,
-                           uint32_t prefix, uint32_t length, uint32_t hop)
+static inline uint64_t add(const struct settings *t, uint8_t *counters, size_t counters_bytes,
+                           uint32_t *slots, size_t slots_words, uint32_t prefix, uint32_t length,
+                           uint32_t hop)
 {
     if (length == 0) {
         slots[slots_words - 1] = hop + 1;
@@ -131,7 +164,7 @@ static inline uint64_t add(const struct settings *t, uint8_t *counters, uint32_t
     if (found.vacant == found.none)
         return 8;
     size_t place[8];
-    uint32_t many = places(t, length, prefix, place);
+    uint32_t many = places(t, counters_bytes, length, prefix, place);
     for (uint32_t i = 0; i < many; i++)
         if (counters[place[i]] + hits(place, many, place[i]) > 15)
             return 9;
@@ -142,8 +175,8 @@ static inline uint64_t add(const struct settings *t, uint8_t *counters, uint32_t
     return 0;
 }
 
-static inline uint64_t withdraw(const struct settings *t, uint8_t *counters, uint32_t *slots, size_t slots_words,
-                                uint32_t prefix, uint32_t length)
+static inline uint64_t withdraw(const struct settings *t, uint8_t *counters, size_t counters_bytes,
+                                uint32_t *slots, size_t slots_words, uint32_t prefix, uint32_t length)
 {
     if (length == 0) {
         if (!occupied(slots[slots_words - 1]))
@@ -155,7 +188,7 @@ static inline uint64_t withdraw(const struct settings *t, uint8_t *counters, uin
     if (found.held == found.none)
         return 7;
     size_t place[8];
-    uint32_t many = places(t, length, prefix, place);
+    uint32_t many = places(t, counters_bytes, length, prefix, place);
     for (uint32_t i = 0; i < many; i++)
         if (counters[place[i]] < hits(place, many, place[i]))
             return 10;
@@ -166,36 +199,37 @@ static inline uint64_t withdraw(const struct settings *t, uint8_t *counters, uin
     return 0;
 }
 
-uint64_t hand_add(uint32_t k, uint32_t d, uint32_t e, uint32_t s, uint32_t a, uint32_t b,
-                  uint32_t c, uint8_t *counters, size_t counters_bytes, uint32_t *slots,
+uint64_t hand_add(uint32_t k, const uint8_t *d, size_t d_count, uint32_t e, uint32_t s, uint32_t a,
+                  uint32_t b, uint32_t c, uint8_t *counters, size_t counters_bytes, uint32_t *slots,
                   size_t slots_words, uint32_t prefix, uint32_t length, uint32_t hop)
 {
-    const struct settings t = {k, d, e, s, a, b, c};
+    const struct settings t = {k, d, d_count, e, s, a, b, c};
     uint64_t refusal = refuse_route(&t, counters_bytes, slots_words, prefix, length);
     if (refusal == 0 && hop > 65535)
         refusal = 5;
     if (refusal == 0)
-        refusal = add(&t, counters, slots, slots_words, prefix, length, hop);
+        refusal = add(&t, counters, counters_bytes, slots, slots_words, prefix, length, hop);
     return REFUSED(refusal);
 }
 
-uint64_t hand_withdraw(uint32_t k, uint32_t d, uint32_t e, uint32_t s, uint32_t a, uint32_t b,
-                       uint32_t c, uint8_t *counters, size_t counters_bytes, uint32_t *slots,
-                       size_t slots_words, uint32_t prefix, uint32_t length)
+uint64_t hand_withdraw(uint32_t k, const uint8_t *d, size_t d_count, uint32_t e, uint32_t s,
+                       uint32_t a, uint32_t b, uint32_t c, uint8_t *counters, size_t counters_bytes,
+                       uint32_t *slots, size_t slots_words, uint32_t prefix, uint32_t length)
 {
-    const struct settings t = {k, d, e, s, a, b, c};
+    const struct settings t = {k, d, d_count, e, s, a, b, c};
     uint64_t refusal = refuse_route(&t, counters_bytes, slots_words, prefix, length);
     if (refusal == 0)
-        refusal = withdraw(&t, counters, slots, slots_words, prefix, length);
+        refusal = withdraw(&t, counters, counters_bytes, slots, slots_words, prefix, length);
     return REFUSED(refusal);
 }
 
-uint64_t hand_change(uint32_t k, uint32_t d, uint32_t e, uint32_t s, uint32_t a, uint32_t b,
-                     uint32_t c, uint8_t *counters, size_t counters_bytes, uint32_t *slots,
-                     size_t slots_words, uint32_t prefix, uint32_t length, uint32_t hop)
+uint64_t hand_change(uint32_t k, const uint8_t *d, size_t d_count, uint32_t e, uint32_t s,
+                     uint32_t a, uint32_t b, uint32_t c, uint8_t *counters, size_t counters_bytes,
+                     uint32_t *slots, size_t slots_words, uint32_t prefix, uint32_t length,
+                     uint32_t hop)
 {
     (void)counters;
-    const struct settings t = {k, d, e, s, a, b, c};
+    const struct settings t = {k, d, d_count, e, s, a, b, c};
     uint64_t refusal = refuse_route(&t, counters_bytes, slots_words, prefix, length);
     if (refusal != 0)
         return REFUSED(refusal);
@@ -215,31 +249,32 @@ uint64_t hand_change(uint32_t k, uint32_t d, uint32_t e, uint32_t s, uint32_t a,
 }
 
 /* Most filters have zero at their first place, and then need no second multiplication. */
-static inline int claims(const struct settings *t, const uint8_t *filter, uint32_t p)
+static inline int claims(const struct settings *t, const uint8_t *filter, uint32_t d, uint32_t p)
 {
     uint32_t g = t->a * p;
-    if (__builtin_expect(filter[g >> (32 - t->d)] == 0, 1))
+    if (__builtin_expect(filter[g >> (32 - d)] == 0, 1))
         return 0;
     uint32_t growth = t->b * p;
     for (uint32_t i = 1; i < t->k; i++) {
         g += growth;
-        if (filter[g >> (32 - t->d)] == 0)
+        if (filter[g >> (32 - d)] == 0)
             return 0;
     }
     return 1;
 }
 
-/* From length 32 down: the next prefix has one bit less, and the next filter lies just before. Once as a loop,
-   and once unrolled, so that each length's bits are constants. */
+/* From length 32 down, and from the end of the counters: the next prefix has one bit less, and the next filter
+   lies just before. Once as a loop, and once unrolled, so that each length's bits are constants. */
 #define VECTOR_OF(name, unroll)                                                                     \
-    static inline uint32_t name(const struct settings *t, const uint8_t *counters, uint32_t address) \
+    static inline uint32_t name(const struct settings *t, const uint8_t *end, uint32_t address)     \
     {                                                                                               \
         uint32_t vector = 0, p = address, bit = 1;                                                  \
-        const uint8_t *filter = counters + ((size_t)32 << t->d);                                    \
-        _Pragma(unroll) for (uint32_t length = 32; length > 0; length--)                            \
+        const uint8_t *filter = end;                                                                \
+        _Pragma(unroll) for (uint32_t length = LENGTHS; length > 0; length--)                       \
         {                                                                                           \
-            filter -= (size_t)1 << t->d;                                                            \
-            if (claims(t, filter, p))                                                               \
+            uint32_t d = t->d[length - 1];                                                          \
+            filter -= (size_t)1 << d;                                                               \
+            if (claims(t, filter, d, p))                                                            \
                 vector |= 1u << (length - 1);                                                       \
             p &= ~bit;                                                                              \
             bit <<= 1;                                                                              \
@@ -272,14 +307,15 @@ static inline uint64_t default_answer(const uint8_t *slots, size_t slots_bytes, 
     return occupied(mark) ? answer(mark, 0, probes) : probes;
 }
 
-uint64_t hand_match_vector(uint32_t k, uint32_t d, uint32_t e, uint32_t s, uint32_t a, uint32_t b,
-                           uint32_t c, const uint8_t *counters, size_t counters_bytes,
-                           const uint8_t *slots, size_t slots_bytes, uint32_t address)
+uint64_t hand_match_vector(uint32_t k, const uint8_t *d, size_t d_count, uint32_t e, uint32_t s,
+                           uint32_t a, uint32_t b, uint32_t c, const uint8_t *counters,
+                           size_t counters_bytes, const uint8_t *slots, size_t slots_bytes,
+                           uint32_t address)
 {
     (void)slots;
-    const struct settings t = {k, d, e, s, a, b, c};
+    const struct settings t = {k, d, d_count, e, s, a, b, c};
     uint64_t refusal = refuse_bytes(&t, counters_bytes, slots_bytes);
-    return refusal != 0 ? REFUSED(refusal) : vector_of(&t, counters, address);
+    return refusal != 0 ? REFUSED(refusal) : vector_of(&t, counters + counters_bytes, address);
 }
 
 /* What the buckets of the set bits answer, in slots of the right size. */
@@ -298,34 +334,37 @@ static inline uint64_t lookup(const struct settings *t, const uint8_t *slots, si
     return default_answer(slots, slots_bytes, probes);
 }
 
-uint64_t hand_lookup(uint32_t k, uint32_t d, uint32_t e, uint32_t s, uint32_t a, uint32_t b,
-                     uint32_t c, const uint8_t *counters, size_t counters_bytes,
-                     const uint8_t *slots, size_t slots_bytes, uint32_t address)
+uint64_t hand_lookup(uint32_t k, const uint8_t *d, size_t d_count, uint32_t e, uint32_t s,
+                     uint32_t a, uint32_t b, uint32_t c, const uint8_t *counters,
+                     size_t counters_bytes, const uint8_t *slots, size_t slots_bytes,
+                     uint32_t address)
 {
-    const struct settings t = {k, d, e, s, a, b, c};
+    const struct settings t = {k, d, d_count, e, s, a, b, c};
     uint64_t refusal = refuse_bytes(&t, counters_bytes, slots_bytes);
     if (refusal != 0)
         return REFUSED(refusal);
-    return lookup(&t, slots, slots_bytes, address, vector_of(&t, counters, address));
+    return lookup(&t, slots, slots_bytes, address, vector_of(&t, counters + counters_bytes, address));
 }
 
-uint64_t hand_lookup_unrolled(uint32_t k, uint32_t d, uint32_t e, uint32_t s, uint32_t a, uint32_t b,
-                              uint32_t c, const uint8_t *counters, size_t counters_bytes,
-                              const uint8_t *slots, size_t slots_bytes, uint32_t address)
+uint64_t hand_lookup_unrolled(uint32_t k, const uint8_t *d, size_t d_count, uint32_t e, uint32_t s,
+                              uint32_t a, uint32_t b, uint32_t c, const uint8_t *counters,
+                              size_t counters_bytes, const uint8_t *slots, size_t slots_bytes,
+                              uint32_t address)
 {
-    const struct settings t = {k, d, e, s, a, b, c};
+    const struct settings t = {k, d, d_count, e, s, a, b, c};
     uint64_t refusal = refuse_bytes(&t, counters_bytes, slots_bytes);
     if (refusal != 0)
         return REFUSED(refusal);
-    return lookup(&t, slots, slots_bytes, address, vector_unrolled(&t, counters, address));
+    return lookup(&t, slots, slots_bytes, address, vector_unrolled(&t, counters + counters_bytes, address));
 }
 
-uint64_t hand_lookup_list(uint32_t k, uint32_t d, uint32_t e, uint32_t s, uint32_t a, uint32_t b,
-                          uint32_t c, const uint8_t *counters, size_t counters_bytes,
-                          const uint8_t *slots, size_t slots_bytes, const uint8_t *addresses,
-                          size_t addresses_bytes, uint8_t *results, size_t results_bytes)
+uint64_t hand_lookup_list(uint32_t k, const uint8_t *d, size_t d_count, uint32_t e, uint32_t s,
+                          uint32_t a, uint32_t b, uint32_t c, const uint8_t *counters,
+                          size_t counters_bytes, const uint8_t *slots, size_t slots_bytes,
+                          const uint8_t *addresses, size_t addresses_bytes, uint8_t *results,
+                          size_t results_bytes)
 {
-    const struct settings t = {k, d, e, s, a, b, c};
+    const struct settings t = {k, d, d_count, e, s, a, b, c};
     uint64_t refusal = refuse_bytes(&t, counters_bytes, slots_bytes);
     if (refusal != 0)
         return REFUSED(refusal);
@@ -333,7 +372,7 @@ uint64_t hand_lookup_list(uint32_t k, uint32_t d, uint32_t e, uint32_t s, uint32
         return REFUSED(18);
     for (size_t i = 0; i < addresses_bytes / 4; i++) {
         uint32_t address = word(addresses, i);
-        uint64_t given = lookup(&t, slots, slots_bytes, address, vector_of(&t, counters, address));
+        uint64_t given = lookup(&t, slots, slots_bytes, address, vector_of(&t, counters + counters_bytes, address));
         const uint32_t result[4] = {(uint32_t)(given >> 40), (uint32_t)(given >> 16) & 0xffff,
                                     (uint32_t)(given >> 8) & 0xff, (uint32_t)given & 0xff};
         memcpy(results + 16 * i, result, sizeof result);
@@ -341,19 +380,20 @@ uint64_t hand_lookup_list(uint32_t k, uint32_t d, uint32_t e, uint32_t s, uint32
     return 0;
 }
 
-uint64_t hand_lookup_in_turn(uint32_t k, uint32_t d, uint32_t e, uint32_t s, uint32_t a, uint32_t b,
-                             uint32_t c, const uint8_t *counters, size_t counters_bytes,
-                             const uint8_t *slots, size_t slots_bytes, uint32_t address)
+uint64_t hand_lookup_in_turn(uint32_t k, const uint8_t *d, size_t d_count, uint32_t e, uint32_t s,
+                             uint32_t a, uint32_t b, uint32_t c, const uint8_t *counters,
+                             size_t counters_bytes, const uint8_t *slots, size_t slots_bytes,
+                             uint32_t address)
 {
-    const struct settings t = {k, d, e, s, a, b, c};
+    const struct settings t = {k, d, d_count, e, s, a, b, c};
     uint64_t refusal = refuse_bytes(&t, counters_bytes, slots_bytes);
     if (refusal != 0)
         return REFUSED(refusal);
     uint32_t probes = 0, p = address, bit = 1;
-    const uint8_t *filter = counters + ((size_t)32 << d);
-    for (uint32_t length = 32; length > 0; length--) {
-        filter -= (size_t)1 << d;
-        if (claims(&t, filter, p)) {
+    const uint8_t *filter = counters + counters_bytes;
+    for (uint32_t length = LENGTHS; length > 0; length--) {
+        filter -= (size_t)1 << d[length - 1];
+        if (claims(&t, filter, d[length - 1], p)) {
             probes++;
             uint32_t mark = probe(&t, slots, length, p);
             if (mark != 0)
@@ -455,12 +495,12 @@ static inline const uint8_t *take_prefix(const uint8_t *at, uint32_t *prefix, ui
     return at + octets_of(*length);
 }
 
-uint64_t hand_update(uint32_t k, uint32_t d, uint32_t e, uint32_t s, uint32_t a, uint32_t b,
-                     uint32_t c, uint8_t *counters, size_t counters_bytes, uint32_t *slots,
-                     size_t slots_words, const uint8_t *message, size_t message_bytes,
-                     const uint32_t *hops, size_t hops_words)
+uint64_t hand_update(uint32_t k, const uint8_t *d, size_t d_count, uint32_t e, uint32_t s,
+                     uint32_t a, uint32_t b, uint32_t c, uint8_t *counters, size_t counters_bytes,
+                     uint32_t *slots, size_t slots_words, const uint8_t *message,
+                     size_t message_bytes, const uint32_t *hops, size_t hops_words)
 {
-    const struct settings t = {k, d, e, s, a, b, c};
+    const struct settings t = {k, d, d_count, e, s, a, b, c};
     struct parts parts;
     uint32_t hop = 0, prefix, length;
     uint64_t refused = 0, accepted = 0, refusal = refuse_memory(&t, counters_bytes, slots_words);
@@ -475,13 +515,13 @@ uint64_t hand_update(uint32_t k, uint32_t d, uint32_t e, uint32_t s, uint32_t a,
     }
     for (const uint8_t *at = message + 21; at < message + parts.withdrawn_to;) {
         at = take_prefix(at, &prefix, &length);
-        refusal = withdraw(&t, counters, slots, slots_words, prefix, length);
+        refusal = withdraw(&t, counters, counters_bytes, slots, slots_words, prefix, length);
         accepted += refusal == 0;
         refused += refusal != 0;
     }
     for (const uint8_t *at = message + parts.announced_from; at < message + message_bytes;) {
         at = take_prefix(at, &prefix, &length);
-        refusal = add(&t, counters, slots, slots_words, prefix, length, hop);
+        refusal = add(&t, counters, counters_bytes, slots, slots_words, prefix, length, hop);
         accepted += refusal == 0;
         refused += refusal != 0;
     }
