@@ -51,8 +51,8 @@ test:
 	@tests/all
 
 run:
-	@$(RT) check routes >&2
-	@tests/start target/bin/routes
+	@$(RT) check text_program >&2
+	@tests/start target/bin/text_program
 
 lib: $(ARCHIVE)
 
@@ -147,7 +147,7 @@ edits: target/second
 # With BEFORE the library is measured beside that of an earlier commit, and else beside plain C.
 ifeq ($(BEFORE),)
 bench: target/bench target/second
-	@$(RT) check routes >&2
+	@$(RT) check text_program >&2
 	@[ '$(MEASURED)' = '$(ARCHIVE)' ] || echo 'the library is measured as compiled for this machine, the text program under an emulator'
 	@target/bench
 	@echo

@@ -71,7 +71,7 @@ usage: second [--seed N] [--calls N | --seconds N]   random histories, 500000 ca
        second --mix N [--seed N]                     writes so many lines for it, most of them readable
 
 After --lines, '-- COMMAND [WORD..]' names what starts the text program; it is tests/start with
-target/bin/routes unless told. Without --lines, '--host PATH' names the program that is linked with the
+target/bin/text_program unless told. Without --lines, '--host PATH' names the program that is linked with the
 library; it is the host beside this one unless told.";
 
 /// How many lines are compared unless told.

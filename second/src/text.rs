@@ -53,7 +53,7 @@ impl Text {
         }
         let program = std::env::current_exe()?.with_file_name("bin").join("routes");
         if !program.exists() {
-            let missing = format!("{} is missing: 'rt check routes' builds it", program.display());
+            let missing = format!("{} is missing: 'rt check text_program' builds it", program.display());
             return Err(io::Error::other(missing));
         }
         let start = std::env::current_exe()?.with_file_name("../tests/start");

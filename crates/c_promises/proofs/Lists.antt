@@ -18,8 +18,8 @@ use Rattle.rules.specs.Table.{Memory, lent, words, refuse, fourfold, memory-ref
 use Rattle.rules.proofs.Lists.{list-size, list-place, list-same}
 use Rattle.rules.proofs.Members.{both}
 use Rattle.rules.proofs.Refusals.{memory-passing}
-use Rattle.words.proofs.Bytes.{four-each}
-use Rattle.words.proofs.Words.{count-whole, word-is}
+use Rattle.c_words.proofs.Bytes.{four-each}
+use Rattle.c_words.proofs.Words.{count-whole, word-is}
 use Rattle.gateway.specs.Crossing.{ListCrossed}
 use Rattle.promises.specs.History.{Route}
 use Rattle.promises.specs.Demands.{Condition, memory-conditions, NoneMet, FirstMet, Stored, Reordered, matches, Longest, NoMatch, probes-down-to, lengths-in-use, adds}

@@ -17,9 +17,9 @@ use Rattle.rules.specs.Tools.{all}
 use Rattle.rules.specs.Table.{slots-size, Memory, memory-refusal, Update, lent, left, whole-words, words, one-if, answer-number, vector-number, lookup, match-vector, vector-of, c-lookup, c-match-vector, bytes-of}
 use Rattle.rules.proofs.Members.{both}
 use Rattle.rules.proofs.Vectors.{bits-lt}
-use Rattle.words.proofs.Bytes.{four-each}
-use Rattle.words.proofs.Words.{count-whole, count-none}
-use Rattle.numbers.specs.Fitting.{Fits}
+use Rattle.c_words.proofs.Bytes.{four-each}
+use Rattle.c_words.proofs.Words.{count-whole, count-none}
+use Rattle.c_numbers.specs.Fitting.{Fits}
 use Rattle.gateway.specs.Crossing.{Crossed}
 use Rattle.gateway.proofs.Fitting.{lookup-fits}
 use Rattle.c_promises.specs.Numbers.{gateway-refusal, gateway-found, gateway-hop, gateway-length, gateway-probes, gateway-vector}

@@ -8,7 +8,7 @@ use lib.ListN.{length}
 use Rattle.rules.specs.declared.Settings.{Settings}
 use Rattle.rules.specs.Tools.{within}
 use Rattle.rules.specs.Table.{list-in-range, in-range, Memory, lent, refuse, memory-refusal, route-refusal, add-refusal, withdraw-refusal, change-refusal, update, clear, add, withdraw, change, match-vector, vector-number, c-match-vector, refused, lookup, one-if, answer-number, c-lookup, listed, list-refusal, c-list-refusal, c-lookup-list, words}
-use Rattle.messages.specs.Reading.{message-refusal, refused-message, update as do-message, report-number}
+use Rattle.message_format.specs.Reading.{message-refusal, refused-message, update as do-message, report-number}
 use Rattle.gateway.specs.Crossing.{Crossed, ListCrossed, MessageCrossed}
 
 module _ (t : Settings) (other : eqb (length (t .d)) 32 ≡ false) where

@@ -17,10 +17,10 @@ use Rattle.rules.specs.Table.{prefix, occupied, hop-of, default-mark, holds, he
 use Rattle.rules.proofs.Marks.{hop-high}
 use Rattle.rules.proofs.Members.{both}
 use Rattle.rules.proofs.Lowest.{some-lowest}
-use Rattle.messages.specs.Reading.{message-refusal, read-routes, counts, refused-message, update as do-message}
-use Rattle.messages.specs.Writing.{writing-refusal, write-withdrawal}
-use Rattle.messages.proofs.Counting.{counts-fit}
-use Rattle.numbers.specs.Fitting.{refusals-end, RefusalFits, Fits, CountsFit}
+use Rattle.message_format.specs.Reading.{message-refusal, read-routes, counts, refused-message, update as do-message}
+use Rattle.message_format.specs.Writing.{writing-refusal, write-withdrawal}
+use Rattle.message_format.proofs.Counting.{counts-fit}
+use Rattle.c_numbers.specs.Fitting.{refusals-end, RefusalFits, Fits, CountsFit}
 
 -- ---- Refusals
 

@@ -4,7 +4,7 @@ use mathlib.Core.List.{List}
 use mathlib.Core.Path.{_≡_}
 use Rattle.rules.specs.declared.Settings.{Settings}
 use Rattle.rules.specs.Table.{Update, lent, Listed}
-use Rattle.messages.specs.Reading.{Read, report-number}
+use Rattle.message_format.specs.Reading.{Read, report-number}
 
 -- what comes first in every call: K, the list of D, which may have any count, and five numbers more
 abbrev pub settings-of : (k : ℕ) (d : List ℕ) (e s a b c : ℕ) → Settings

@@ -7,23 +7,23 @@ ghost use mathlib.Core.Bool.{true};
 ghost use lib.Dec.{eqb};
 ghost use lib.ListN.{length};
 ghost use Rattle.rules.specs.Table.{lent, words, memory-refusal, lookup, match-vector, c-lookup, c-match-vector, answered, c-lookup-list, clear, add, withdraw, change};
-ghost use Rattle.messages.specs.Reading.{update};
-ghost use Rattle.messages.specs.Writing.{write-withdrawal};
+ghost use Rattle.message_format.specs.Reading.{update};
+ghost use Rattle.message_format.specs.Writing.{write-withdrawal};
 ghost use Rattle.gateway.specs.Crossing.{settings-of, Crossed, ListCrossed, MessageCrossed};
-use hops::answer_refused;
+use c_numbers::number_of_answer;
+use c_numbers::number_of_report;
+use c_numbers::number_of_vector;
+use c_numbers::refusal_part;
+use c_words::word_count;
+use lookup_answers::answer_refused;
 use lookups::answer_in_bytes;
 use lookups::list_in_bytes;
-use numbers::number_of_answer;
-use numbers::number_of_report;
-use numbers::number_of_vector;
-use numbers::refusal_part;
 use refusals::refuse_list;
 use rules::Answer;
 use rules::Settings;
 use rules::Vector;
 use settings::refuse_sizes;
 use vectors::vector_of;
-use words::word_count;
 
 // Whether a list of D has a value for each of the 32 lengths. Every call on a table asks this first.
 fn is_whole(d: &[u8]) -> bool
@@ -309,7 +309,7 @@ pub extern "C" fn gateway_update(
         return refusal_part(1);
     }
     let settings = settings_of(k, d, e, s, a, b, c);
-    number_of_report(neighbours::update(settings, counters, slots, message, hops))
+    number_of_report(message_calls::update(settings, counters, slots, message, hops))
 }
 
 // Writes the message that withdraws a route, into room of exactly its size.
@@ -317,5 +317,5 @@ pub extern "C" fn gateway_update(
 pub extern "C" fn gateway_write_withdrawal(prefix: u32, length: u32, room: &mut [u8]) -> u64
     ensures { λ r. ⌜ ListCrossed (write-withdrawal prefix length (now (room .entry))) r (now (room .exit)) ⌝ }
 {
-    refusal_part(writers::write_withdrawal(prefix, length, room))
+    refusal_part(message_writers::write_withdrawal(prefix, length, room))
 }

@@ -10,7 +10,7 @@ use lib.Seq.{sets, length-sets, sets-eq, take-all, length-take-le}
 use Rattle.rules.specs.declared.Settings.{Settings}
 use Rattle.rules.specs.Table.{Memory, lookup, answer-words, list-words, bytes-of}
 use Rattle.rules.proofs.Lists.{list-size, list-more}
-use Rattle.words.proofs.Bytes.{four-each, bytes-append}
+use Rattle.c_words.proofs.Bytes.{four-each, bytes-append}
 
 -- a form in which words are written: each takes so many places
 pub record Form (form : List ℕ → List ℕ) (width : ℕ) : Type 0 where

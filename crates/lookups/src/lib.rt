@@ -10,17 +10,17 @@ ghost use Rattle.rules.specs.Ready.{Counters, Slots};
 use buckets::default_mark;
 use buckets::mark_at;
 use buckets::search_buckets;
-use hops::answer_default;
-use hops::answer_route;
-use hops::one_if;
+use c_words::put_word;
+use c_words::search_bytes;
+use c_words::word_at;
+use c_words::word_count;
+use lookup_answers::answer_default;
+use lookup_answers::answer_route;
+use lookup_answers::one_if;
 use rules::Answer;
 use rules::Place;
 use rules::Settings;
 use vectors::vector_of;
-use words::put_word;
-use words::search_bytes;
-use words::word_at;
-use words::word_count;
 
 // The answer to an address whose claimed lengths are the set bits of `claimed`: the place in which
 // the search of them ends, or else the default.
@@ -52,9 +52,9 @@ pub fn answer_in_bytes(settings: Settings, slots: &[u8], address: u32, claimed: 
             slot,
             length,
             probes,
-        } => answer_route(words::mark_at(slots, slot), length, probes),
+        } => answer_route(c_words::mark_at(slots, slot), length, probes),
         Place::Absent => answer_default(
-            words::default_mark(settings, slots),
+            c_words::default_mark(settings, slots),
             u32::count_ones(claimed),
         ),
     }

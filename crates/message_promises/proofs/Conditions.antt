@@ -13,11 +13,11 @@ use Rattle.rules.specs.Tools.{all as every, any, lowest, or-else}
 use Rattle.rules.specs.Table.{Memory, refuse, memory-refusal}
 use Rattle.rules.proofs.Lowest.{some-lowest}
 use Rattle.rules.proofs.Prefixes.{loose-low}
-use Rattle.messages.specs.Format.{byte, bytes-for, prefix-at, after-prefix, prefix-fits, prefixes-fit, prefixes, value-size, attributes-fit, next-hops, at-most-one, attributes-good, all-ones, header-good, parts-fit, announces, message-hop, contents-good, well-formed}
-use Rattle.messages.specs.Reading.{place-in, hop-place, is-hop, hop-in, message-refusal}
-use Rattle.messages.specs.Writing.{writing-refusal}
-use Rattle.messages.proofs.Written.{withdrawal-length}
-use Rattle.messages.proofs.Walks.{by-steps, after-prefix-later, fit-none, fit-next, prefixes-none, prefixes-next}
+use Rattle.message_format.specs.Format.{byte, bytes-for, prefix-at, after-prefix, prefix-fits, prefixes-fit, prefixes, value-size, attributes-fit, next-hops, at-most-one, attributes-good, all-ones, header-good, parts-fit, announces, message-hop, contents-good, well-formed}
+use Rattle.message_format.specs.Reading.{place-in, hop-place, is-hop, hop-in, message-refusal}
+use Rattle.message_format.specs.Writing.{writing-refusal}
+use Rattle.message_format.proofs.Written.{withdrawal-length}
+use Rattle.message_format.proofs.Walks.{by-steps, after-prefix-later, fit-none, fit-next, prefixes-none, prefixes-next}
 use Rattle.promises.specs.Demands.{some-below, every-below, memory-conditions, route-conditions}
 use Rattle.promises.proofs.Conditions.{first-met, numbered, not-both, not-above, within-outside, memory-then}
 use Rattle.promises.proofs.Sums.{by-cases}

@@ -1,4 +1,4 @@
--- The equations of specs/Heard.antt and specs/FromC.antt are the contracts of crates/neighbours, crates/writers and
+-- The equations of specs/Heard.antt and specs/FromC.antt are the contracts of crates/message_calls, crates/message_writers and
 -- crates/gateway, as a caller learns them, so each proof is to hand one on. Here a holds a call's arguments in their order,
 -- r is what the call gives back, and end holds the arguments at exit. What the types of the arguments tell, that a prefix is
 -- below 2^32 and each byte of a message below 256, whoever may make the call has.
@@ -21,8 +21,8 @@ use borrow.Fn.World.{World, ArgsD, ResD}
 use borrow.Table.Referent.{fInt}
 use Rattle.rules.specs.declared.Settings.{Settings}
 use Rattle.rules.specs.Table.{lent}
-use Rattle.messages.specs.declared.Report.{Report}
-use Rattle.messages.specs.Writing.{write-withdrawal}
+use Rattle.message_format.specs.declared.Report.{Report}
+use Rattle.message_format.specs.Writing.{write-withdrawal}
 use Rattle.promises.specs.History.{Call, Clear}
 use Rattle.promises.specs.Calls.{Made}
 use Rattle.promises.proofs.Contracts.{owned, Called, called-ensured, called-word, ListCalled, list-given}
@@ -32,12 +32,12 @@ use Rattle.gateway.specs.Crossing.{ListCrossed}
 use Rattle.gateway.proofs.Arguments.{settings, past}
 use Rattle.message_promises.specs.Heard.{heard-as, MessageEnsured, WrittenEnsured, Heard, Stop, Step, Ask, Hear, HeardServed}
 use Rattle.message_promises.specs.FromC.{Sent}
-use Rattle.neighbours.proofs.update
-use Rattle.neighbours.proofs.update.Kinds as update-kinds
-use Rattle.neighbours.proofs.update.Reads as update-reads
-use Rattle.writers.proofs.write_withdrawal
-use Rattle.writers.proofs.write_withdrawal.Kinds as written-kinds
-use Rattle.writers.proofs.write_withdrawal.Reads as written-reads
+use Rattle.message_calls.proofs.update
+use Rattle.message_calls.proofs.update.Kinds as update-kinds
+use Rattle.message_calls.proofs.update.Reads as update-reads
+use Rattle.message_writers.proofs.write_withdrawal
+use Rattle.message_writers.proofs.write_withdrawal.Kinds as written-kinds
+use Rattle.message_writers.proofs.write_withdrawal.Reads as written-reads
 use Rattle.gateway.proofs.gateway_update
 use Rattle.gateway.proofs.gateway_update.Kinds as c-update-kinds
 use Rattle.gateway.proofs.gateway_update.Reads as c-update-reads

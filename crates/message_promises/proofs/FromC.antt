@@ -13,9 +13,9 @@ use borrow.Author.Tests.{eqb-true, eqb-false}
 use Rattle.rules.specs.declared.Settings.{Settings}
 use Rattle.rules.specs.Table.{lent, answered}
 use Rattle.rules.proofs.Members.{both}
-use Rattle.messages.specs.Reading.{Counted, counting, none-yet, update, report-number}
-use Rattle.messages.specs.Writing.{write-withdrawal}
-use Rattle.messages.proofs.Counting.{counts-fit}
+use Rattle.message_format.specs.Reading.{Counted, counting, none-yet, update, report-number}
+use Rattle.message_format.specs.Writing.{write-withdrawal}
+use Rattle.message_format.proofs.Counting.{counts-fit}
 use Rattle.gateway.specs.Crossing.{ListCrossed}
 use Rattle.promises.specs.History.{Call, word-sized, all-word-sized, act}
 use Rattle.promises.specs.Calls.{Made}

@@ -7,9 +7,9 @@ use lib.Dec.{lit<}
 use lib.ListN.{replicate}
 use Rattle.rules.specs.Table.{Memory, lookup, c-lookup, bytes-of}
 use Rattle.rules.proofs.Worked.{ip, T}
-use Rattle.messages.specs.declared.Report.{Report}
-use Rattle.messages.specs.Format.{byte, joined, two-bytes, four-bytes, some-starts, starts, bytes-for, octet, address-at, prefix-at, after-prefix, prefix-fits, prefixes-fit, prefixes, extended, type-of, value-from, value-size, after-attribute, attribute-fits, attributes-fit, next-hops, at-most-one, attributes-good, first-hop, next-hop, all-ones, header-good, withdrawn-to, attributes-from, announced-from, parts-fit, withdrawn-prefixes, announced-prefixes, announces, message-hop, contents-good, well-formed}
-use Rattle.messages.specs.Reading.{place-in, hop-place, is-hop, hop-or-0, hop-in, message-refusal, counting, each, withdrawing, adding, read-routes, counts, update, report-number}
+use Rattle.message_format.specs.declared.Report.{Report}
+use Rattle.message_format.specs.Format.{byte, joined, two-bytes, four-bytes, some-starts, starts, bytes-for, octet, address-at, prefix-at, after-prefix, prefix-fits, prefixes-fit, prefixes, extended, type-of, value-from, value-size, after-attribute, attribute-fits, attributes-fit, next-hops, at-most-one, attributes-good, first-hop, next-hop, all-ones, header-good, withdrawn-to, attributes-from, announced-from, parts-fit, withdrawn-prefixes, announced-prefixes, announces, message-hop, contents-good, well-formed}
+use Rattle.message_format.specs.Reading.{place-in, hop-place, is-hop, hop-or-0, hop-in, message-refusal, counting, each, withdrawing, adding, read-routes, counts, update, report-number}
 use Rattle.promises.specs.History.{Add, Withdraw, word-sized, act}
 use Rattle.promises.specs.Demands.{Finds, matches, longest, longer}
 use Rattle.promises.specs.Calls.{Made, on-paper}

@@ -13,7 +13,7 @@ use Rattle.rules.specs.declared.Answer.{Answer}
 use Rattle.rules.specs.Tools.{all}
 use Rattle.rules.specs.Table.{bucket, lent, refuse, match-vector, lookup}
 use Rattle.rules.proofs.Refusals.{memory-passing, passed}
-use Rattle.messages.specs.declared.Report.{Report}
+use Rattle.message_format.specs.declared.Report.{Report}
 use Rattle.promises.specs.History.{Route, Call, Add, Withdraw, word-sized, about}
 use Rattle.promises.specs.Demands.{Stored, number, Reordered, matches, Longest, NoMatch, Finds, SaysNone, number-given, probes-down-to, lengths-in-use, adds, filter-sum}
 use Rattle.promises.specs.Calls.{Made, Ensured, calls-of, numbers-of, on-paper}

@@ -1,5 +1,5 @@
 -- Demand 1 of a message and of a written withdrawal, on any settings, any lent memory, any message, any list of next hops
--- and any room. That each call ends and does nothing undefined is what the checks of crates/neighbours and crates/writers
+-- and any room. That each call ends and does nothing undefined is what the checks of crates/message_calls and crates/message_writers
 -- prove. The lists of conditions are in specs/Heard.antt.
 use Prim.Native.Nat.{ℕ, _≤_}
 use mathlib.Core.Path.{_≡_, refl, sym, ap, _∙_}
@@ -10,10 +10,10 @@ use lib.ListN.{length}
 use borrow.Author.Tests.{eq-eqb, ne-eqb}
 use Rattle.rules.specs.declared.Settings.{Settings}
 use Rattle.rules.specs.Table.{Memory, lent, listed}
-use Rattle.messages.specs.declared.Report.{Report}
-use Rattle.messages.specs.Reading.{message-refusal, counts, refused-message, update}
-use Rattle.messages.specs.Writing.{writing-refusal, withdrawal, write-withdrawal}
-use Rattle.messages.proofs.Counting.{update-accepted, update-refused}
+use Rattle.message_format.specs.declared.Report.{Report}
+use Rattle.message_format.specs.Reading.{message-refusal, counts, refused-message, update}
+use Rattle.message_format.specs.Writing.{writing-refusal, withdrawal, write-withdrawal}
+use Rattle.message_format.proofs.Counting.{update-accepted, update-refused}
 use Rattle.promises.specs.Demands.{memory-conditions, route-conditions, NoneMet, FirstMet}
 use Rattle.promises.proofs.Conditions.{given-exactly, none-exactly}
 use Rattle.message_promises.specs.Heard.{MessageEnsured, WrittenEnsured, message-conditions, writing-conditions}

@@ -11,11 +11,11 @@ use borrow.Author.Tests.{ltb-false}
 use Rattle.rules.specs.declared.Settings.{Settings}
 use Rattle.rules.specs.Tools.{those}
 use Rattle.rules.specs.Table.{Memory, Update, lent, one-if}
-use Rattle.messages.specs.declared.Report.{Report}
-use Rattle.messages.specs.Format.{Prefix, withdrawn-prefixes, announced-from, announced-prefixes, announces}
-use Rattle.messages.specs.Reading.{Counted, counting, each, withdrawing, adding, none-yet, hop-or-0, is-hop, hop-in, message-refusal, read-routes, counts, reported}
-use Rattle.messages.proofs.Walks.{prefixes-none}
-use Rattle.messages.proofs.Counting.{Passed, message-passed, update-accepted, routes-total}
+use Rattle.message_format.specs.declared.Report.{Report}
+use Rattle.message_format.specs.Format.{Prefix, withdrawn-prefixes, announced-from, announced-prefixes, announces}
+use Rattle.message_format.specs.Reading.{Counted, counting, each, withdrawing, adding, none-yet, hop-or-0, is-hop, hop-in, message-refusal, read-routes, counts, reported}
+use Rattle.message_format.proofs.Walks.{prefixes-none}
+use Rattle.message_format.proofs.Counting.{Passed, message-passed, update-accepted, routes-total}
 use Rattle.promises.specs.History.{Route, Call, Add, Withdraw, act, after, next-by, after-by}
 use Rattle.promises.specs.Calls.{Made, Ran, Stop, Step, numbers-of}
 use Rattle.promises.proofs.Calls.{met}

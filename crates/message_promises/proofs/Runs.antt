@@ -14,9 +14,9 @@ use Rattle.rules.specs.declared.Settings.{Settings}
 use Rattle.rules.specs.Table.{prefix, Memory, lent}
 use Rattle.rules.proofs.Members.{both}
 use Rattle.rules.proofs.Prefixes.{prefix-lt}
-use Rattle.messages.specs.Format.{byte, joined, bytes-for, Prefix, octet, address-at, prefix-at, after-prefix, prefixes, withdrawn-from, withdrawn-to, announced-from, withdrawn-prefixes, announced-prefixes}
-use Rattle.messages.specs.Reading.{hop-in}
-use Rattle.messages.proofs.Walks.{by-steps, after-prefix-later, prefixes-none, prefixes-next}
+use Rattle.message_format.specs.Format.{byte, joined, bytes-for, Prefix, octet, address-at, prefix-at, after-prefix, prefixes, withdrawn-from, withdrawn-to, announced-from, withdrawn-prefixes, announced-prefixes}
+use Rattle.message_format.specs.Reading.{hop-in}
+use Rattle.message_format.proofs.Walks.{by-steps, after-prefix-later, prefixes-none, prefixes-next}
 use Rattle.promises.specs.History.{Route, Call, Add, Withdraw, word-sized, all-word-sized, act, noted}
 use Rattle.promises.specs.Calls.{Made, Ran, Stop, Step, Ask, calls-of, on-paper, Served}
 use Rattle.promises.proofs.Calls as promise

@@ -8,10 +8,10 @@ use lib.Dec.{ltb}
 use borrow.Author.Tests.{ltb-false}
 use Rattle.rules.specs.Table.{loose}
 use Rattle.rules.proofs.Refusals.{passed}
-use Rattle.messages.specs.Format.{announces}
-use Rattle.messages.specs.Reading.{hop-in}
-use Rattle.messages.specs.Writing.{writing-refusal, withdrawal}
-use Rattle.messages.proofs.Written.{withdrawal-good, withdrawal-says, withdrawal-no-more}
+use Rattle.message_format.specs.Format.{announces}
+use Rattle.message_format.specs.Reading.{hop-in}
+use Rattle.message_format.specs.Writing.{writing-refusal, withdrawal}
+use Rattle.message_format.proofs.Written.{withdrawal-good, withdrawal-says, withdrawal-no-more}
 use Rattle.promises.specs.History.{Withdraw}
 use Rattle.message_promises.specs.Heard.{withdrawals, announcements, message-calls, WrittenEnsured, malformed, no-hop}
 use Rattle.message_promises.proofs.Conditions.{form-bad}

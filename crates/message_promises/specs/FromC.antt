@@ -6,8 +6,8 @@ use mathlib.Core.List.{List, [], _∷_, _++_, map}
 use lib.Pow.{areBytes}
 use Rattle.rules.specs.declared.Settings.{Settings}
 use Rattle.rules.specs.Table.{lent}
-use Rattle.messages.specs.declared.Report.{Report}
-use Rattle.messages.specs.Reading.{update}
+use Rattle.message_format.specs.declared.Report.{Report}
+use Rattle.message_format.specs.Reading.{update}
 use Rattle.gateway.specs.Crossing.{MessageCrossed}
 use Rattle.promises.specs.History.{Call, Clear}
 use Rattle.promises.specs.Calls.{Made}

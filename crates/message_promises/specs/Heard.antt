@@ -1,4 +1,4 @@
--- What a caller of crates/neighbours sees, and what a message is on paper: single calls, made one after the other.
+-- What a caller of crates/message_calls sees, and what a message is on paper: single calls, made one after the other.
 use Prim.Native.Nat.{ℕ, _+_, _-_}
 use mathlib.Core.Path.{_≡_}
 use mathlib.Core.Bool.{Bool, true, false, cond, not, _&&_, _||_}
@@ -10,10 +10,10 @@ use lib.Pow.{areBytes}
 use Rattle.rules.specs.declared.Settings.{Settings}
 use Rattle.rules.specs.Tools.{any, those}
 use Rattle.rules.specs.Table.{Memory, lent, answered}
-use Rattle.messages.specs.declared.Report.{Report}
-use Rattle.messages.specs.Format.{byte, two-bytes, Prefix, bytes-for, prefixes, value-size, attributes-fit, next-hops, withdrawn-from, withdrawn-to, attributes-from, announced-from, withdrawn-prefixes, announced-prefixes, message-hop}
-use Rattle.messages.specs.Reading.{hop-in, reported, update}
-use Rattle.messages.specs.Writing.{withdrawal, write-withdrawal}
+use Rattle.message_format.specs.declared.Report.{Report}
+use Rattle.message_format.specs.Format.{byte, two-bytes, Prefix, bytes-for, prefixes, value-size, attributes-fit, next-hops, withdrawn-from, withdrawn-to, attributes-from, announced-from, withdrawn-prefixes, announced-prefixes, message-hop}
+use Rattle.message_format.specs.Reading.{hop-in, reported, update}
+use Rattle.message_format.specs.Writing.{withdrawal, write-withdrawal}
 use Rattle.promises.specs.History.{Route, Call, Clear, Add, Withdraw, word-sized, act, noted}
 use Rattle.promises.specs.Demands.{Condition, _when_, outside, some-below, every-below, memory-conditions, route-conditions, number-given}
 use Rattle.promises.specs.Calls.{Made, Ensured, ListEnsured}
@@ -58,12 +58,12 @@ how-many test numbers = length (those test numbers)
 
 -- ---- What the contracts ensure
 
--- that of a message, as crates/neighbours has it: counters and slots are the lists at entry, those with a stroke the lists
+-- that of a message, as crates/message_calls has it: counters and slots are the lists at entry, those with a stroke the lists
 -- at exit
 abbrev pub MessageEnsured : Settings → (counters slots message hops : List ℕ) (report : Report) (counters' slots' : List ℕ) → Type 0
 MessageEnsured t counters slots message hops report counters' slots' = update t (lent counters slots) message hops ≡ reported report counters' slots'
 
--- that of a written withdrawal, as crates/writers has it: the room at entry and, with a stroke, at exit
+-- that of a written withdrawal, as crates/message_writers has it: the room at entry and, with a stroke, at exit
 abbrev pub WrittenEnsured : (p L : ℕ) (room : List ℕ) (r : ℕ) (room' : List ℕ) → Type 0
 WrittenEnsured p L room r room' = write-withdrawal p L room ≡ answered r room'
 

@@ -5,7 +5,7 @@ ghost use Rattle.rules.specs.Table.{lent, left, clear, add, withdraw, change, m
 use buckets::put_slot;
 use buckets::search_bucket;
 use defaults::change_default;
-use hops::answer_refused;
+use lookup_answers::answer_refused;
 use lookups::answer_in_words;
 use lookups::list_in_words;
 use refusals::refuse_hop;

@@ -6,11 +6,11 @@ use mathlib.Core.List.{List, [], _∷_, _++_}
 use mathlib.Core.Option.{Option, some, none}
 use borrow.Author.Tests.{lt-ltb}
 use Rattle.rules.specs.declared.Settings.{Settings}
-use Rattle.requests.specs.declared.Request.{Request}
-use Rattle.requests.specs.declared.Request.the-variants.{Add, Drop, Move, Find, Unreadable}
-use Rattle.requests.specs.Shapes.{request}
-use Rattle.requests.proofs.Words.{Words, request-words}
-use Rattle.lines.specs.Lines.{answer, answers}
+use Rattle.text_requests.specs.declared.Request.{Request}
+use Rattle.text_requests.specs.declared.Request.the-variants.{Add, Drop, Move, Find, Unreadable}
+use Rattle.text_requests.specs.Shapes.{request}
+use Rattle.text_requests.proofs.Words.{Words, request-words}
+use Rattle.text_lines.specs.Lines.{answer, answers}
 use Rattle.promises.specs.History.{Call, State, word-sized, all-word-sized, after, after-by}
 use Rattle.promises.proofs.Kept.{Kept}
 use Rattle.promises.proofs.Histories.{kept-after}

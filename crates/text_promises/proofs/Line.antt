@@ -6,12 +6,12 @@ use mathlib.Core.Option.{Option, some, none}
 use borrow.Author.Tests.{lt-ltb}
 use Rattle.rules.specs.declared.Settings.{Settings}
 use Rattle.rules.specs.Table.{Memory, lookup}
-use Rattle.requests.specs.declared.Request.{Request}
-use Rattle.requests.specs.declared.Request.the-variants.{Add, Drop, Move, Find, Unreadable}
-use Rattle.requests.specs.Shapes.{request}
-use Rattle.requests.proofs.Words.{Words, request-words}
-use Rattle.answers.specs.Texts.{outcome, found}
-use Rattle.lines.specs.Lines.{updated, reply, answer}
+use Rattle.text_requests.specs.declared.Request.{Request}
+use Rattle.text_requests.specs.declared.Request.the-variants.{Add, Drop, Move, Find, Unreadable}
+use Rattle.text_requests.specs.Shapes.{request}
+use Rattle.text_requests.proofs.Words.{Words, request-words}
+use Rattle.text_answers.specs.Texts.{outcome, found}
+use Rattle.text_lines.specs.Lines.{updated, reply, answer}
 use Rattle.promises.specs.History.{Route, Call, Add as Call·Add, Withdraw, Change, State, word-sized, act, noted, next, after, next-by, after-by}
 use Rattle.promises.proofs.Kept.{Kept}
 use Rattle.promises.proofs.Refusals.{number-by-routes}

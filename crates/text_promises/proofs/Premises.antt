@@ -8,9 +8,9 @@ use lib.ListN.{replicate}
 use lib.Seq.{sets}
 use Rattle.rules.specs.Table.{Memory, lent, clear}
 use Rattle.rules.proofs.Worked.{ip, T, computing}
-use Rattle.spelling.specs.Spelling.{spelled}
-use Rattle.answers.specs.Texts.{found, unreadable}
-use Rattle.lines.specs.Lines.{updated, reply, answer, lines, joined, keep, end-line, take-byte, feed, finish, roomy, feed-chunk, finish-input}
+use Rattle.text_spelling.specs.Spelling.{spelled}
+use Rattle.text_answers.specs.Texts.{found, unreadable}
+use Rattle.text_lines.specs.Lines.{updated, reply, answer, lines, joined, keep, end-line, take-byte, feed, finish, roomy, feed-chunk, finish-input}
 use Rattle.promises.specs.History.{State, Withdraw}
 use Rattle.promises.specs.Demands.{Longest}
 use Rattle.promises.proofs.Paper.{route}
@@ -62,7 +62,7 @@ number-met : answer T (then .memory) (spelled "drop 11.0.0.0/8") .text ≡ spell
 unfolding all-computing
 number-met = numbers-written T sevens cleared morning (spelled "drop 11.0.0.0/8") (Withdraw (ip 11 0 0 0) 8) refl
 
--- ---- A caller of crates/lines
+-- ---- A caller of crates/text_lines
 
 -- the byte x is fed and the input ends: what is passed on is the answer to that one line
 abbrev zeros : Memory

@@ -13,14 +13,14 @@ use Rattle.rules.specs.declared.Settings.{Settings}
 use Rattle.rules.specs.declared.Answer.{Answer}
 use Rattle.rules.specs.Table.{Memory, lent, clear, lookup}
 use Rattle.rules.proofs.Worked.{T, computing}
-use Rattle.spelling.specs.Spelling.{spelled}
-use Rattle.requests.specs.declared.Request.{Request}
-use Rattle.requests.specs.declared.Request.the-variants.{Add, Drop, Move, Find, Unreadable}
-use Rattle.requests.specs.Shapes.{request}
-use Rattle.requests.proofs.Words.{request-words}
-use Rattle.answers.specs.Texts.{outcome, hit, miss, found, unreadable}
-use Rattle.lines.specs.Lines.{updated, reply, answer, lines, answers, going, written, joined}
-use Rattle.lines.proofs.Cuts.{begins, one-by-one}
+use Rattle.text_spelling.specs.Spelling.{spelled}
+use Rattle.text_requests.specs.declared.Request.{Request}
+use Rattle.text_requests.specs.declared.Request.the-variants.{Add, Drop, Move, Find, Unreadable}
+use Rattle.text_requests.specs.Shapes.{request}
+use Rattle.text_requests.proofs.Words.{request-words}
+use Rattle.text_answers.specs.Texts.{outcome, hit, miss, found, unreadable}
+use Rattle.text_lines.specs.Lines.{updated, reply, answer, lines, answers, going, written, joined}
+use Rattle.text_lines.proofs.Cuts.{begins, one-by-one}
 use Rattle.promises.specs.History.{Route, Call, Add as Call·Add, State, act, without, written as put-down, history, history-by}
 use Rattle.promises.specs.Demands.{Stored, matches, Longest, NoMatch, Finds, number-given, probes-down-to, longest}
 use Rattle.promises.proofs.Kept.{Kept}
@@ -59,7 +59,7 @@ module _ (t : Settings) (before : Memory) (cleared : clear t before .refusal ≡
       → written t (going (start .memory) line 0) chunks ≡ paper-answers t [] (lines (joined chunks))
   paper-says-of-input line chunks room = one-by-one t (start .memory) line chunks room ∙ paper-says (lines (joined chunks))
 
-  -- Whoever answers an input by the calls of crates/lines, with room for the answers, passes on just that.
+  -- Whoever answers an input by the calls of crates/text_lines, with room for the answers, passes on just that.
   pub paper-says-of-calls : {line : List ℕ} {chunks : List (List ℕ)} {text : List ℕ} → 65 ≤ length line → Streamed t (start .memory) line 0 chunks text
       → text ≡ paper-answers t [] (lines (joined chunks))
   paper-says-of-calls {line} {chunks} room streamed =

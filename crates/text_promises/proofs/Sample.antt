@@ -4,11 +4,11 @@ use Prim.Native.String.{String}
 use mathlib.Core.Path.{_≡_, refl}
 use mathlib.Core.Bool.{Bool, true}
 use mathlib.Core.List.{[]}
-use Rattle.spelling.specs.Spelling.{spelled, same}
+use Rattle.text_spelling.specs.Spelling.{spelled, same}
 use Rattle.rules.proofs.Worked.{T}
-use Rattle.requests.specs.Shapes.{digit, front-digit, digits, value, begins-with-number, number, no-numbers, with-octet, with-length, with-hop, item, items, fit, request}
-use Rattle.answers.specs.Texts.{last-digits, decimal, refused as refused-text, outcome, hit, miss}
-use Rattle.lines.specs.Lines.{lines-after, lines}
+use Rattle.text_requests.specs.Shapes.{digit, front-digit, digits, value, begins-with-number, number, no-numbers, with-octet, with-length, with-hop, item, items, fit, request}
+use Rattle.text_answers.specs.Texts.{last-digits, decimal, refused as refused-text, outcome, hit, miss}
+use Rattle.text_lines.specs.Lines.{lines-after, lines}
 use Rattle.promises.proofs.Agree.{showing}
 use Rattle.text_promises.specs.Paper.{update-of, done, noted-line, find-text, text-by, paper-answers}
 

@@ -5,10 +5,10 @@ use mathlib.Core.List.{List}
 use lib.ListN.{length}
 use Rattle.rules.specs.declared.Settings.{Settings}
 use Rattle.rules.specs.Table.{Memory}
-use Rattle.lines.specs.Lines.{going, written, feed-chunk, finish-input}
-use Rattle.lines.proofs.Cuts.{room-kept}
-use Rattle.lines.proofs.Owed.{Keeps, unfinished, keeps-chunk}
-use Rattle.lines.proofs.Determined.{answers-in-front}
+use Rattle.text_lines.specs.Lines.{going, written, feed-chunk, finish-input}
+use Rattle.text_lines.proofs.Cuts.{room-kept}
+use Rattle.text_lines.proofs.Owed.{Keeps, unfinished, keeps-chunk}
+use Rattle.text_lines.proofs.Determined.{answers-in-front}
 use Rattle.text_promises.specs.Streams.{Streamed, Ended, Chunk}
 
 module _ {t : Settings} where

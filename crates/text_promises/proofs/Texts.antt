@@ -11,12 +11,12 @@ use lib.Dec.{ltb, eqb}
 use borrow.Author.Tests.{lt-ltb, le-leb, ltb-true, ltb-false, eqb-true}
 use Rattle.rules.specs.declared.Settings.{Settings}
 use Rattle.rules.specs.Tools.{within}
-use Rattle.spelling.specs.Spelling.{spelled, same}
-use Rattle.requests.specs.declared.Request.{Request}
-use Rattle.requests.specs.declared.Request.the-variants.{Add, Drop, Move, Find, Unreadable}
-use Rattle.requests.specs.Shapes.{digit, digits, value}
-use Rattle.answers.specs.Texts.{last-digits, decimal, refused, outcome, hit, miss, unreadable}
-use Rattle.answers.proofs.Decimals.{decimal-first}
+use Rattle.text_spelling.specs.Spelling.{spelled, same}
+use Rattle.text_requests.specs.declared.Request.{Request}
+use Rattle.text_requests.specs.declared.Request.the-variants.{Add, Drop, Move, Find, Unreadable}
+use Rattle.text_requests.specs.Shapes.{digit, digits, value}
+use Rattle.text_answers.specs.Texts.{last-digits, decimal, refused, outcome, hit, miss, unreadable}
+use Rattle.text_answers.proofs.Decimals.{decimal-first}
 use Rattle.promises.specs.History.{Route}
 use Rattle.promises.specs.Demands.{longest}
 use Rattle.text_promises.specs.Paper.{find-text, text-by}

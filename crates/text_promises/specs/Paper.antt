@@ -4,12 +4,12 @@ use mathlib.Core.Bool.{cond}
 use mathlib.Core.List.{List, [], _∷_, _++_}
 use mathlib.Core.Option.{Option, some, none}
 use Rattle.rules.specs.declared.Settings.{Settings}
-use Rattle.spelling.specs.Spelling.{spelled, same}
-use Rattle.requests.specs.declared.Request.{Request}
-use Rattle.requests.specs.declared.Request.the-variants.{Add, Drop, Move, Find, Unreadable}
-use Rattle.requests.specs.Shapes.{request}
-use Rattle.answers.specs.Texts.{outcome, hit, miss, unreadable}
-use Rattle.lines.specs.Lines.{answer}
+use Rattle.text_spelling.specs.Spelling.{spelled, same}
+use Rattle.text_requests.specs.declared.Request.{Request}
+use Rattle.text_requests.specs.declared.Request.the-variants.{Add, Drop, Move, Find, Unreadable}
+use Rattle.text_requests.specs.Shapes.{request}
+use Rattle.text_answers.specs.Texts.{outcome, hit, miss, unreadable}
+use Rattle.text_lines.specs.Lines.{answer}
 use Rattle.promises.specs.History.{Route, Call, Add as Call·Add, Withdraw, Change, State, written}
 use Rattle.promises.specs.Demands.{number-given, probes-down-to, longest}
 

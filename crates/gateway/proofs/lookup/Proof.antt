@@ -5,7 +5,7 @@ use borrow.Author.Needs.{needs}
 use Rattle.rules.specs.Table.{words}
 use Rattle.rules.proofs.Refusals.{Fitted, memory-passed}
 use Rattle.rules.proofs.Answers.{by-vector}
-use Rattle.hops.proofs.Lookups.{stopped}
+use Rattle.lookup_answers.proofs.Lookups.{stopped}
 use Rattle.gateway.proofs.lookup.Statement.{statement}
 use Rattle.gateway.proofs.lookup.Tie as tie
 

@@ -4,7 +4,7 @@ use denote.Ref.{now}
 use borrow.Author.Needs.{needs}
 use Rattle.rules.specs.Table.{words}
 use Rattle.rules.proofs.Vectors.{ones-set-bits}
-use Rattle.hops.proofs.Lookups.{Searched, mark-lent, mark-low, route-answers, default-answers}
+use Rattle.lookup_answers.proofs.Lookups.{Searched, mark-lent, mark-low, route-answers, default-answers}
 use Rattle.lookups.proofs.answer_in_bytes.Statement.{statement}
 use Rattle.lookups.proofs.answer_in_bytes.Tie as tie
 

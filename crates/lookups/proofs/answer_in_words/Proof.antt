@@ -3,7 +3,7 @@ use native.Mathlib.Omega.{arith}
 use denote.Ref.{now}
 use borrow.Author.Needs.{needs}
 use Rattle.rules.proofs.Vectors.{ones-set-bits}
-use Rattle.hops.proofs.Lookups.{Searched, mark-lent, mark-low, route-answers, default-answers}
+use Rattle.lookup_answers.proofs.Lookups.{Searched, mark-lent, mark-low, route-answers, default-answers}
 use Rattle.lookups.proofs.answer_in_words.Statement.{statement}
 use Rattle.lookups.proofs.answer_in_words.Tie as tie
 

@@ -8,7 +8,7 @@ use borrow.Author.Needs.{needs}
 use Rattle.rules.specs.Table.{lent, words, bytes-of}
 use Rattle.rules.proofs.Refusals.{Fitted}
 use Rattle.rules.proofs.Answers.{by-vector}
-use Rattle.words.proofs.Words.{count-whole}
+use Rattle.c_words.proofs.Words.{count-whole}
 use Rattle.lookups.proofs.Listing.{as-bytes, Listing, listing-none, listing-size, listing-more, listing-all}
 use Rattle.lookups.proofs.list_in_bytes.Statement.{statement}
 use Rattle.lookups.proofs.list_in_bytes.Tie as tie

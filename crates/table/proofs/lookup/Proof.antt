@@ -4,7 +4,7 @@ use denote.Ref.{now}
 use borrow.Author.Needs.{needs}
 use Rattle.rules.proofs.Refusals.{Fitted, memory-passed}
 use Rattle.rules.proofs.Answers.{by-vector}
-use Rattle.hops.proofs.Lookups.{stopped}
+use Rattle.lookup_answers.proofs.Lookups.{stopped}
 use Rattle.table.proofs.lookup.Statement.{statement}
 use Rattle.table.proofs.lookup.Tie as tie
 

@@ -1,0 +1,20 @@
+-- The four octets, joined.
+use borrow.Author.Needs.{needs}
+use Rattle.message_format.specs.Format.{address-at, joined}
+use Rattle.message_cursors.proofs.address_at.Statement.{statement}
+use Rattle.message_cursors.proofs.address_at.Tie as tie
+
+returns : tie.Need-returns
+unfolding address-at joined
+returns c = search needs
+
+pub address-at-spec : {M : Type 1} → statement M
+address-at-spec =
+    tie.close
+    (tie.spec
+    (λ c κs. search needs)
+    (λ c κs. search needs)
+    (λ c κs. search needs)
+    (λ c κs. search needs)
+    (λ c κs. search needs)
+    returns)

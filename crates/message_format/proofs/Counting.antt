@@ -1,0 +1,124 @@
+-- Counts add up: each route of a message is accepted or refused, and a message has fewer of them than 4,096.
+use Prim.Native.Nat.{ℕ, _+_, _-_, _^_, _≤_, _<_}
+use mathlib.Core.Path.{_≡_, refl}
+use mathlib.Core.Bool.{Bool, true, false, not, _&&_}
+use mathlib.Core.List.{List, [], _∷_}
+use mathlib.Core.Logic.{_≢_}
+use native.Mathlib.Omega.{arith}
+use lib.Dec.{eqb, leb}
+use lib.ListN.{length}
+use borrow.Author.Tests.{leb-true, eqb-true, eqb-false, ne-eqb, eq-eqb, not-false}
+use Rattle.rules.specs.declared.Settings.{Settings}
+use Rattle.rules.specs.Tools.{within}
+use Rattle.rules.specs.Table.{Memory, Update, one-if}
+use Rattle.rules.proofs.Members.{both, within-true}
+use Rattle.rules.proofs.Refusals.{passed, memory-passed}
+use Rattle.message_format.specs.Format.{Prefix, after-prefix, prefixes, header-good, withdrawn-from, withdrawn-to, attributes-from, announced-from, parts-fit, withdrawn-prefixes, announced-prefixes, contents-good, well-formed, announces}
+use Rattle.message_format.specs.Reading.{Counted, counting, each, withdrawing, adding, none-yet, read-routes, hop-or-0, hop-in, is-hop, message-refusal, counts, refused-message, update}
+use Rattle.message_format.proofs.Walks.{by-steps, after-prefix-later, prefixes-none, prefixes-next}
+
+-- ---- Each route is accepted or refused
+
+-- how many routes were counted
+abbrev pub total : Counted → ℕ
+total so-far = so-far .accepted + so-far .refused
+
+-- one single call more is one route more
+pub counting-total : (so-far : Counted) (u : Update) → total (counting so-far u) ≡ total so-far + 1
+unfolding counting one-if
+counting-total so-far u = go (eqb (u .refusal) 0)
+  where
+    go : (b : Bool) → so-far .accepted + one-if b + (so-far .refused + one-if (not b)) ≡ so-far .accepted + so-far .refused + 1
+    go true = omega arith
+    go false = omega arith
+
+-- each prefix is counted once
+pub each-total : (call : Memory → Prefix → Update) (so-far : Counted) (qs : List Prefix) → total (each call so-far qs) ≡ total so-far + length qs
+unfolding each
+each-total call so-far [] = omega arith
+each-total call so-far (q ∷ qs) =
+    let u = call (so-far .memory) q in
+    omega (arith, each-total call (counting so-far u) qs, counting-total so-far u)
+
+-- Accepted and refused together are the message's withdrawn and announced prefixes.
+pub routes-total : (t : Settings) (m : Memory) (message hops : List ℕ)
+    → total (read-routes t m message hops) ≡ length (withdrawn-prefixes message) + length (announced-prefixes message)
+unfolding read-routes
+routes-total t m message hops =
+    let first = each (withdrawing t) (none-yet m) (withdrawn-prefixes message) in
+    omega (arith, each-total (withdrawing t) (none-yet m) (withdrawn-prefixes message), each-total (adding t (hop-or-0 (hop-in message hops))) first (announced-prefixes message))
+
+-- ---- A part has no more prefixes than bytes
+
+-- Each prefix takes a byte or more of its part.
+pub prefixes-few : (bytes : List ℕ) (at end : ℕ) → length (prefixes bytes at end) ≤ end - at
+prefixes-few bytes at end = by-steps end (after-prefix bytes) (after-prefix-later bytes) (λ here. length (prefixes bytes here end) ≤ end - here)
+    (λ here past. rw (prefixes-none bytes here end past) (omega arith))
+    (λ here inside rest. rw (prefixes-next bytes here end inside) (omega (arith, after-prefix-later bytes here)))
+    at
+
+-- ---- A well-formed message
+
+-- where its parts lie
+pub record Parts (message : List ℕ) : Type 0 where
+  pub withdrawn : withdrawn-from ≤ withdrawn-to message
+  pub attributes : withdrawn-to message + 2 ≤ announced-from message
+  pub announced : announced-from message ≤ length message
+  pub short : length message ≤ 4096
+
+pub parts : (message : List ℕ) → well-formed message ≡ true → Parts message
+unfolding well-formed header-good parts-fit withdrawn-to attributes-from announced-from
+parts message good =
+    let whole = both (header-good message) _ good in
+    let sized = both (within 23 4096 (length message)) _ (whole .0) in
+    let inside = both (parts-fit message) (contents-good message) (whole .1) in
+    let ends = both (leb (attributes-from message) (length message)) _ (inside .0) in
+    record {
+      withdrawn = omega arith;
+      attributes = omega arith;
+      announced = leb-true _ _ (ends .1);
+      short = within-true 23 4096 (length message) (sized .0) .1;
+    }
+
+-- Its withdrawn and announced prefixes are fewer than 4,096.
+pub routes-few : (message : List ℕ) → well-formed message ≡ true → length (withdrawn-prefixes message) + length (announced-prefixes message) < 2 ^ 12
+unfolding withdrawn-prefixes announced-prefixes
+routes-few message good =
+    let lie = parts message good in
+    omega (arith, prefixes-few message withdrawn-from (withdrawn-to message), prefixes-few message (announced-from message) (length message))
+
+-- ---- What is not refused
+
+-- what 12 and 13 not given tells
+pub record Passed (message hops : List ℕ) : Type 0 where
+  pub good : well-formed message ≡ true
+  pub hop : announces message && not (is-hop (hop-in message hops)) ≡ false
+
+pub message-passed : (t : Settings) (m : Memory) (message hops : List ℕ) → message-refusal t m message hops ≡ 0 → Passed message hops
+unfolding message-refusal
+message-passed t m message hops e =
+    let twelve = passed (not (well-formed message)) 11 _ (memory-passed t (m .counters) (m .slots) _ e .1) in
+    record { good = not-false _ (twelve .0); hop = passed _ 12 0 (twelve .1) .0 }
+
+module _ (t : Settings) (m : Memory) (message hops : List ℕ) where
+  -- An accepted message is given its routes' counts, and leaves the memory as they do.
+  pub update-accepted : message-refusal t m message hops ≡ 0 → update t m message hops ≡ counts (read-routes t m message hops)
+  unfolding update
+  update-accepted e = rw (eq-eqb _ 0 e)
+
+  -- A refused one is given its number, and counts nothing.
+  pub update-refused : message-refusal t m message hops ≢ 0 → update t m message hops ≡ refused-message (message-refusal t m message hops) m
+  unfolding update
+  update-refused ne = rw (ne-eqb _ 0 ne)
+
+  -- Whatever the message, both counts are below 4,096.
+  pub counts-fit : let r = update t m message hops .report in (r .accepted < 2 ^ 12) × (r .refused < 2 ^ 12)
+  unfolding counts refused-message
+  counts-fit = go (eqb (message-refusal t m message hops) 0) refl
+    where
+      go : (b : Bool) → eqb (message-refusal t m message hops) 0 ≡ b → let r = update t m message hops .report in (r .accepted < 2 ^ 12) × (r .refused < 2 ^ 12)
+      go true e =
+          let none = eqb-true _ _ e in
+          let few = routes-few message (message-passed t m message hops none .good) in
+          rw (update-accepted none) (omega (arith, routes-total t m message hops), omega (arith, routes-total t m message hops))
+      go false e = rw (update-refused (eqb-false _ _ e)) (omega arith, omega arith)

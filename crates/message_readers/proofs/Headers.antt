@@ -1,0 +1,116 @@
+-- What a message's first checks tell.
+use Prim.Native.Nat.{ℕ, zero, suc, _+_, _≤_, _<_}
+use mathlib.Core.Path.{_≡_, refl, sym, subst}
+use mathlib.Core.Bool.{Bool, true, false, cond, _&&_, and-false}
+use mathlib.Core.List.{List}
+use mathlib.Core.Logic.{_⊎_, inl, inr}
+use native.Mathlib.Nat.{eq-or-lt-of-le, le-of-suc-le-suc}
+use native.Mathlib.Numerals.{add-one}
+use native.Mathlib.Omega.{arith}
+use lib.Dec.{leb, eqb}
+use lib.ListN.{length}
+use borrow.Author.Tests.{leb-true, le-leb, lt-leb, eq-eqb, ne-eqb}
+use Rattle.rules.specs.Tools.{within}
+use Rattle.rules.proofs.Members.{both}
+use Rattle.message_format.specs.Format.{byte, two-bytes, prefixes-fit, all-ones, header-good, withdrawn-from, withdrawn-to, attributes-from, announced-from, parts-fit, message-hop, contents-good, well-formed}
+use Rattle.message_readers.specs.declared.NextHop.{NextHop}
+use Rattle.message_readers.specs.declared.HopRead.the-variants as hops
+use Rattle.message_readers.specs.declared.Message.{Message}
+use Rattle.message_readers.specs.declared.Message.the-variants.{Good, Fault}
+use Rattle.message_readers.specs.Readings.{given, hop-read, message-read}
+use Rattle.message_readers.proofs.Parts.{hop-told}
+
+module _ (bytes : List ℕ) where
+  pub ones-on : (i : ℕ) → all-ones bytes i ≡ true → byte bytes i ≡ 255 → all-ones bytes (i + 1) ≡ true
+  unfolding all-ones
+  ones-on i ones e = rw (add-one, ones, eq-eqb _ _ e)
+
+  pub ones-not : (n i : ℕ) → i < n → (byte bytes i ≡ 255 → ⊥) → all-ones bytes n ≡ false
+  unfolding all-ones
+  ones-not zero i l ne = absurd (omega arith)
+  ones-not (suc n) i l ne = go (eq-or-lt-of-le (le-of-suc-le-suc l)) (λ below. ones-not n i below ne)
+    where
+      go : (i ≡ n) ⊎ (i < n) → (i < n → all-ones bytes n ≡ false) → all-ones bytes n && eqb (byte bytes n) 255 ≡ false
+      go (inl e) ih = rw (← e, ne-eqb _ _ ne) (and-false (all-ones bytes i))
+      go (inr below) ih = rw (ih below)
+
+module _ (message : List ℕ) where
+  pub too-short : length message < 23 → header-good message ≡ false
+  unfolding header-good within
+  too-short l = simp (lt-leb _ _ l)
+
+  pub too-long : 4096 < length message → header-good message ≡ false
+  unfolding header-good within
+  too-long l = simp (lt-leb _ _ l, and-false (leb 23 (length message)))
+
+  module _ (low : 23 ≤ length message) (high : length message ≤ 4096) where
+    pub unmarked : all-ones message 16 ≡ false → header-good message ≡ false
+    unfolding header-good within
+    unmarked o = simp (le-leb _ _ low, le-leb _ _ high, o)
+
+    module _ (ones : all-ones message 16 ≡ true) where
+      pub other-size : (two-bytes message 16 ≡ length message → ⊥) → header-good message ≡ false
+      unfolding header-good within
+      other-size ne = simp (le-leb _ _ low, le-leb _ _ high, ones, ne-eqb _ _ ne)
+
+      pub by-type : two-bytes message 16 ≡ length message → header-good message ≡ eqb (byte message 18) 2
+      unfolding header-good within
+      by-type e = simp (le-leb _ _ low, le-leb _ _ high, ones, eq-eqb _ _ e)
+
+  pub header-size : header-good message ≡ true → (23 ≤ length message) × (length message ≤ 4096)
+  unfolding header-good within
+  header-size good =
+      let sizes = both (leb 23 (length message)) _ (both (leb 23 (length message) && leb (length message) 4096) _ good .0) in
+      (leb-true _ _ (sizes .0), leb-true _ _ (sizes .1))
+
+-- ---- A whole message, check by check
+
+module _ (message : List ℕ) where
+  pub bad-header : header-good message ≡ false → message-read message ≡ Fault
+  unfolding message-read well-formed
+  bad-header h = rw h
+
+  module _ (header : header-good message ≡ true) where
+    pub withdrawn-over : length message < attributes-from message → message-read message ≡ Fault
+    unfolding message-read well-formed parts-fit
+    withdrawn-over l = rw (header, lt-leb _ _ l)
+
+    module _ (withdrawn : attributes-from message ≤ length message) where
+      pub attributes-over : length message < announced-from message → message-read message ≡ Fault
+      unfolding message-read well-formed parts-fit
+      attributes-over l = rw (header, le-leb _ _ withdrawn, lt-leb _ _ l)
+
+      module _ (attributes : announced-from message ≤ length message) where
+        pub withdrawn-unfit : prefixes-fit message withdrawn-from (withdrawn-to message) ≡ false → message-read message ≡ Fault
+        unfolding message-read well-formed parts-fit contents-good
+        withdrawn-unfit f = rw (header, le-leb _ _ withdrawn, le-leb _ _ attributes, f)
+
+        module _ (fit : prefixes-fit message withdrawn-from (withdrawn-to message) ≡ true) where
+          pub attributes-bad : hop-read message (attributes-from message) (announced-from message) ≡ hops.Fault → message-read message ≡ Fault
+          unfolding message-read well-formed parts-fit contents-good
+          attributes-bad f = rw (header, le-leb _ _ withdrawn, le-leb _ _ attributes, fit, hop-told message (attributes-from message) (announced-from message) f)
+
+          pub the-rest : {next-hop : NextHop} → hop-read message (attributes-from message) (announced-from message) ≡ hops.Good next-hop
+              → message-read message ≡ cond (prefixes-fit message (announced-from message) (length message)) (Good (withdrawn-to message) (announced-from message) next-hop) Fault
+          unfolding message-read well-formed parts-fit contents-good message-hop
+          the-rest good =
+              let told = hop-told message (attributes-from message) (announced-from message) good in
+              rw (header, le-leb _ _ withdrawn, le-leb _ _ attributes, fit, told .0, told .1)
+
+-- ---- What an answer tells of a message
+
+abbrev pub MessageTold : (bytes : List ℕ) → Message → Type 0
+MessageTold bytes (Good withdrawn announced next) =
+    (well-formed bytes ≡ true) × (withdrawn ≡ withdrawn-to bytes) × (announced ≡ announced-from bytes) × (given (message-hop bytes) ≡ next)
+MessageTold bytes Fault = well-formed bytes ≡ false
+
+pub message-told : (bytes : List ℕ) {answer : Message} → message-read bytes ≡ answer → MessageTold bytes answer
+unfolding message-read
+message-told bytes told = subst (MessageTold bytes) told (go (well-formed bytes) refl)
+  where
+    read : Bool → Message
+    read b = cond b (Good (withdrawn-to bytes) (announced-from bytes) (given (message-hop bytes))) Fault
+
+    go : (b : Bool) → well-formed bytes ≡ b → MessageTold bytes (read (well-formed bytes))
+    go true e = subst (λ b. MessageTold bytes (read b)) (sym e) (e, refl, refl, refl)
+    go false e = subst (λ b. MessageTold bytes (read b)) (sym e) e

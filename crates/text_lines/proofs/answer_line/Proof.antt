@@ -1,0 +1,63 @@
+-- `lines::answer_line` meets its contract: without room nothing is put, and with it the inner call's contract says all.
+use mathlib.Core.Path.{refl}
+use native.Mathlib.Omega.{arith}
+use borrow.Author.Needs.{needs}
+use borrow.Author.Tests.{leb-true}
+use Rattle.rules.proofs.Told.{told-false, told-true}
+use Rattle.text_lines.specs.Lines.{fits, answer-line}
+use Rattle.text_lines.proofs.answer_line.Statement.{statement}
+use Rattle.text_lines.proofs.answer_line.Tie as tie
+
+has-room-at-requires : tie.Need-has-room-at-requires
+has-room-at-requires c κs = search needs
+
+same-length : tie.Need-same-length
+same-length c = search needs
+
+returns : tie.Need-returns
+unfolding answer-line
+returns c =
+    rw (told-false (c .before .has-room-at .ensures) (c .if1 .taken))
+    (record {
+      refused-is = refl;
+      answered = record {
+        memory-is = refl;
+        put = record { put = record { holds = refl; end = omega arith }; short = omega arith };
+      };
+    })
+
+answer-into-requires : tie.Need-answer-into-requires
+unfolding fits
+answer-into-requires c κs =
+    let test = c .before .before .before in
+    leb-true _ _ (told-true (test .before .has-room-at .ensures) (test .if1 .left))
+
+same-length-2 : tie.Need-same-length-2
+same-length-2 c = search needs
+
+same-length-3 : tie.Need-same-length-3
+same-length-3 c = search needs
+
+same-length-4 : tie.Need-same-length-4
+same-length-4 c = search needs
+
+returns-2 : tie.Need-returns-2
+unfolding answer-line
+returns-2 c =
+    let call = c .before .before .before .before .before .before in
+    let test = call .before .before .before .before in
+    rw (told-true (test .before .has-room-at .ensures) (test .if1 .left))
+    (record { refused-is = refl; answered = call .answer-into .ensures })
+
+pub answer-line-spec : {M : Type 1} → statement M
+answer-line-spec =
+    tie.close
+    (tie.spec
+    has-room-at-requires
+    same-length
+    returns
+    answer-into-requires
+    same-length-2
+    same-length-3
+    same-length-4
+    returns-2)

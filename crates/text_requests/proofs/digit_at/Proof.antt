@@ -1,0 +1,48 @@
+-- `requests::digit_at` meets its contract: at each `return` the tests that led there say what digit the byte is.
+use borrow.Author.Needs.{needs}
+use borrow.Author.Tests.{le-leb, lt-leb}
+use Rattle.rules.specs.Tools.{within}
+use Rattle.text_requests.specs.Shapes.{digit}
+use Rattle.text_requests.proofs.Digits.{digit-here, digit-past}
+use Rattle.text_requests.proofs.digit_at.Statement.{statement}
+use Rattle.text_requests.proofs.digit_at.Tie as tie
+
+shared-slice-read-b : tie.Need-shared-slice-read-b
+shared-slice-read-b c = search needs
+
+returns : tie.Need-returns
+unfolding digit within
+returns c =
+    let a = c .before .before .before .args in
+    let i = c .before .before .if1 .taken in
+    simp (digit-here (a .line .now) (a .at) i, lt-leb _ _ (c .if2 .taken))
+
+returns-2 : tie.Need-returns-2
+unfolding digit within
+returns-2 c =
+    let a = c .before .before .before .before .args in
+    let i = c .before .before .before .if1 .taken in
+    simp (digit-here (a .line .now) (a .at) i, le-leb _ _ (c .before .if2 .left), lt-leb _ _ (c .if3 .taken))
+
+cast-result : tie.Need-cast-result
+cast-result c = search needs
+
+sub-result : tie.Need-sub-result
+sub-result c = search needs
+
+returns-3 : tie.Need-returns-3
+unfolding digit within
+returns-3 c =
+    let a = c .before .before .before .before .args in
+    let i = c .before .before .before .if1 .taken in
+    simp (digit-here (a .line .now) (a .at) i, le-leb _ _ (c .before .if2 .left), le-leb _ _ (c .if3 .left))
+
+returns-4 : tie.Need-returns-4
+returns-4 c =
+    let a = c .before .args in
+    simp (digit-past (a .line .now) (a .at) (c .if1 .left))
+
+pub digit-at-spec : {M : Type 1} → statement M
+digit-at-spec =
+    tie.close
+    (tie.spec shared-slice-read-b returns returns-2 cast-result sub-result returns-3 returns-4)
