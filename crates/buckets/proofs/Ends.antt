@@ -23,22 +23,22 @@ pub record Ended (slots : List ℕ) (slot : ℕ) : Type 0 where
 
 module _ (t : Settings) (slots : List ℕ) (sized : Slots t slots) where
   -- a slot that was found in a bucket, held or vacant
-  lowest-lent : (L p : ℕ) (test : ℕ → Bool) {slot : ℕ} → Ready t L → InBucket t L p (lowest test (t .s)) slot → mark-word slot < length slots
-  lowest-lent L p test ready at = rw (at .number) (slot-lent t slots sized L p (at .s) ready (some-lowest test (t .s) (at .s) (at .there) .within))
+  lowest-lent : (p L : ℕ) (test : ℕ → Bool) {slot : ℕ} → Ready t L → InBucket t p L (lowest test (t .s)) slot → mark-word slot < length slots
+  lowest-lent p L test ready at = rw (at .number) (slot-lent t slots sized p L (at .s) ready (some-lowest test (t .s) (at .s) (at .there) .within))
 
-  pub held-lent : {L p slot : ℕ} → Ready t L → InBucket t L p (held t slots L p) slot → mark-word slot < length slots
+  pub held-lent : {p L slot : ℕ} → Ready t L → InBucket t p L (held t slots p L) slot → mark-word slot < length slots
   unfolding held
-  held-lent {L} {p} = lowest-lent L p (holds t slots L p)
+  held-lent {p} {L} = lowest-lent p L (holds t slots p L)
 
-  pub vacant-lent : {L p slot : ℕ} → Ready t L → InBucket t L p (vacant t slots L p) slot → mark-word slot < length slots
+  pub vacant-lent : {p L slot : ℕ} → Ready t L → InBucket t p L (vacant t slots p L) slot → mark-word slot < length slots
   unfolding vacant
-  vacant-lent {L} {p} = lowest-lent L p (free t slots L p)
+  vacant-lent {p} {L} = lowest-lent p L (free t slots p L)
 
-  pub held-ended : (L p s : ℕ) → Ready t L → held t slots L p ≡ some s → Ended slots (slot-number t L p s)
+  pub held-ended : (p L s : ℕ) → Ready t L → held t slots p L ≡ some s → Ended slots (slot-number t p L s)
   unfolding held holds
-  held-ended L p s ready e =
-      let low = some-lowest (holds t slots L p) (t .s) s e in
-      record { is-lent = slot-lent t slots sized L p s ready (low .within); taken = both _ _ (low .passes) .0 }
+  held-ended p L s ready e =
+      let low = some-lowest (holds t slots p L) (t .s) s e in
+      record { is-lent = slot-lent t slots sized p L s ready (low .within); taken = both _ _ (low .passes) .0 }
 
   -- lengths that have buckets
   pub data Lengths : List ℕ → Type 0 where
@@ -50,14 +50,14 @@ module _ (t : Settings) (slots : List ℕ) (sized : Slots t slots) where
   unfolding searched
   search-ended address probes slot M n none-left e = absurd (let z : _≡_ {A = ℕ} 0 1 = cc in omega arith)
   search-ended address probes slot M n (one-more {L} {Ls} ready rest) e =
-      go (held t slots L (prefix L address)) refl (search-ended address (probes + 1) slot M n rest) e
+      go (held t slots (prefix address L) L) refl (search-ended address (probes + 1) slot M n rest) e
     where
-      go : (o : Option ℕ) → held t slots L (prefix L address) ≡ o
+      go : (o : Option ℕ) → held t slots (prefix address L) L ≡ o
           → (searched t slots address (probes + 1) Ls ≡ At slot M n → Ended slots slot)
-          → found-or t L (prefix L address) (probes + 1) o (searched t slots address (probes + 1) Ls) ≡ At slot M n → Ended slots slot
+          → found-or t (prefix address L) L (probes + 1) o (searched t slots address (probes + 1) Ls) ≡ At slot M n → Ended slots slot
       go (some s) h later found =
-          let number : slot-number t L (prefix L address) s ≡ slot = cc in
-          rw number at (held-ended L (prefix L address) s ready h)
+          let number : slot-number t (prefix address L) L s ≡ slot = cc in
+          rw number at (held-ended (prefix address L) L s ready h)
       go none h later found = later found
 
   -- the set bits of a vector are such lengths

@@ -32,9 +32,9 @@ pub record Between (t : Settings) (slots : List ℕ) (address lengths : ℕ) (fo
   pub few : left + probes < 2 ^ 32
 
 -- nothing is found yet, and no slot below s of the bucket holds p
-pub record Below (t : Settings) (slots : List ℕ) (L p : ℕ) (found : Place) (s : ℕ) : Type 0 where
+pub record Below (t : Settings) (slots : List ℕ) (p L : ℕ) (found : Place) (s : ℕ) : Type 0 where
   pub nothing : found ≡ Absent
-  pub none-holds : lowest (holds t slots L p) s ≡ none
+  pub none-holds : lowest (holds t slots p L) s ≡ none
 
 module _ {t : Settings} {slots : List ℕ} where
   -- before the first length, and after the last
@@ -47,7 +47,7 @@ module _ {t : Settings} {slots : List ℕ} where
   ended between last = between .nothing ∙ sym (between .same ∙ rw (last, set-bits-zero))
 
   -- before the first slot of a bucket
-  pub opened : {L p : ℕ} {found : Place} → found ≡ Absent → Below t slots L p found 0
+  pub opened : {p L : ℕ} {found : Place} → found ≡ Absent → Below t slots p L found 0
   unfolding lowest
   opened nothing = record { nothing = nothing; none-holds = refl }
 
@@ -57,17 +57,17 @@ module _ {t : Settings} {slots : List ℕ} where
     inside range sized h =
         is-lent t slots _ _ s _ (at .from) (record { range = range; low = at .longest .low; high = at .longest .high }) sized h
 
-    pub passed : {found : Place} {r : Bool} → Below t slots (turn .length) (turn .p) found s
-        → r ≡ holding slots (turn .first + s) (turn .p) → r ≡ false → Below t slots (turn .length) (turn .p) found (s + 1)
+    pub passed : {found : Place} {r : Bool} → Below t slots (turn .p) (turn .length) found s
+        → r ≡ holding slots (turn .first + s) (turn .p) → r ≡ false → Below t slots (turn .p) (turn .length) found (s + 1)
     passed {found} {r} below ensured denied =
         let test = holds-by t slots _ _ s _ (at .from) r ensured in
         record { nothing = below .nothing; none-holds = lowest-on _ _ (below .none-holds) (test ∙ denied) }
 
   -- a turn at the longest length that is left
-  module _ {address lengths left probes s : ℕ} {found now : Place} {turn : Turn} (at : Turned t address left turn) (between : Between t slots address lengths found left probes) (below : Below t slots (turn .length) (turn .p) now s) where
+  module _ {address lengths left probes s : ℕ} {found now : Place} {turn : Turn} (at : Turned t address left turn) (between : Between t slots address lengths found left probes) (below : Below t slots (turn .p) (turn .length) now s) where
     -- its bucket ends the search, or the other lengths go on with one probe more
     by-bucket : search t slots address 0 (set-bits lengths)
-        ≡ found-or t (turn .length) (turn .p) (probes + 1) (held t slots (turn .length) (turn .p)) (search t slots address (probes + 1) (set-bits (turn .left)))
+        ≡ found-or t (turn .p) (turn .length) (probes + 1) (held t slots (turn .p) (turn .length)) (search t slots address (probes + 1) (set-bits (turn .left)))
     unfolding search
     by-bucket =
         let longest = at .longest in
@@ -79,7 +79,7 @@ module _ {t : Settings} {slots : List ℕ} where
     next all =
         record {
           nothing = below .nothing;
-          same = by-bucket ∙ rw (none-before (holds t slots (turn .length) (turn .p)) _ _ all (below .none-holds));
+          same = by-bucket ∙ rw (none-before (holds t slots (turn .p) (turn .length)) _ _ all (below .none-holds));
           few = omega (arith, less at);
         }
 
@@ -89,5 +89,5 @@ module _ {t : Settings} {slots : List ℕ} where
     unfolding held
     here {r} within ensured told =
         let test = holds-by t slots _ _ s _ (at .from) r ensured in
-        let lowest-is = lowest-here (holds t slots (turn .length) (turn .p)) _ _ within (below .none-holds) (test ∙ told) in
-        sym (by-bucket ∙ rw (lowest-is, counted t (turn .length) (turn .p) s _ (at .from)))
+        let lowest-is = lowest-here (holds t slots (turn .p) (turn .length)) _ _ within (below .none-holds) (test ∙ told) in
+        sym (by-bucket ∙ rw (lowest-is, counted t (turn .p) (turn .length) s _ (at .from)))

@@ -15,7 +15,7 @@ use Rattle.rules.specs.Ready.{Ready, Slots}
 use Rattle.rules.proofs.Placing.{ranges, bucket-lt, words-fit, default-fits}
 use Rattle.buckets.specs.Turns.{holding}
 
-module _ (t : Settings) (L p : ℕ) (ready : Ready t L) where
+module _ (t : Settings) (p L : ℕ) (ready : Ready t L) where
   -- the buckets of the lengths before L are few, so that their number does not wrap
   before-small : (L - 1) * 2 ^ t .e ≤ 31 * 2 ^ 8
   before-small = mul-le-mul {n₂ = 31} (omega (arith, ready .high)) (pow-mono (ranges t (ready .range) .e-high))
@@ -31,27 +31,27 @@ module _ (t : Settings) (L p : ℕ) (ready : Ready t L) where
   first-small = mul-le-mul bucket-small (ranges t (ready .range) .s-high)
 
 -- slot s is counted from the first slot
-pub counted : (t : Settings) (L p s first : ℕ) → first ≡ slot-number t L p 0 → first + s ≡ slot-number t L p s
+pub counted : (t : Settings) (p L s first : ℕ) → first ≡ slot-number t p L 0 → first + s ≡ slot-number t p L s
 unfolding slot-number
-counted t L p s first from = omega arith
+counted t p L s first from = omega arith
 
 -- its words are lent
-pub slot-lent : (t : Settings) (slots : List ℕ) → Slots t slots → (L p s : ℕ) → Ready t L → s < t .s → mark-word (slot-number t L p s) < length slots
-slot-lent t slots sized L p s ready h = rw (sized .size) (omega (arith, words-fit t L p s ready h .mark, default-fits t))
+pub slot-lent : (t : Settings) (slots : List ℕ) → Slots t slots → (p L s : ℕ) → Ready t L → s < t .s → mark-word (slot-number t p L s) < length slots
+slot-lent t slots sized p L s ready h = rw (sized .size) (omega (arith, words-fit t p L s ready h .mark, default-fits t))
 
-module _ (t : Settings) (slots : List ℕ) (L p s first : ℕ) (from : first ≡ slot-number t L p 0) where
+module _ (t : Settings) (slots : List ℕ) (p L s first : ℕ) (from : first ≡ slot-number t p L 0) where
   pub is-lent : Ready t L → Slots t slots → s < t .s → mark-word (first + s) < length slots
-  is-lent ready sized h = rw (counted t L p s first from) (slot-lent t slots sized L p s ready h)
+  is-lent ready sized h = rw (counted t p L s first from) (slot-lent t slots sized p L s ready h)
 
   -- the test of its mark is the rules'
-  pub free-by : (mark : ℕ) (r : Bool) → mark ≡ mark-at slots (first + s) → r ≡ occupied mark → free t slots L p s ≡ not r
+  pub free-by : (mark : ℕ) (r : Bool) → mark ≡ mark-at slots (first + s) → r ≡ occupied mark → free t slots p L s ≡ not r
   unfolding free
-  free-by mark r m o = rw (o, m, counted t L p s first from)
+  free-by mark r m o = rw (o, m, counted t p L s first from)
 
   -- and so is that of mark and prefix
-  pub holds-by : (r : Bool) → r ≡ holding slots (first + s) p → holds t slots L p s ≡ r
+  pub holds-by : (r : Bool) → r ≡ holding slots (first + s) p → holds t slots p L s ≡ r
   unfolding holds
-  holds-by r h = rw (h, counted t L p s first from)
+  holds-by r h = rw (h, counted t p L s first from)
 
 -- the last word is the default's
 pub some-word : (t : Settings) (slots : List ℕ) → Slots t slots → 1 ≤ length slots

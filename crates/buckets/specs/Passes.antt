@@ -12,9 +12,9 @@ use Rattle.buckets.specs.declared.Vacancy.{Vacancy}
 use Rattle.buckets.specs.declared.Vacancy.the-variants.{At, Full}
 
 -- free slot s of p's bucket at length L is slot-number t L p s; where there is none, the bucket is full
-abbrev pub vacancy-of : Settings → (L p : ℕ) → Option ℕ → Vacancy
-vacancy-of t L p (some s) = At (slot-number t L p s)
-vacancy-of t L p none = Full
+abbrev pub vacancy-of : Settings → (p L : ℕ) → Option ℕ → Vacancy
+vacancy-of t p L (some s) = At (slot-number t p L s)
+vacancy-of t p L none = Full
 
 -- the free slot that was met first: an earlier one, or else this slot
 abbrev pub or-this : Vacancy → (slot : ℕ) → Vacancy
@@ -27,6 +27,6 @@ passed-over t (some s) = s
 passed-over t none = t .s
 
 -- the place is that of p in its bucket, and the vacancy the lowest free slot of those passed over
-pub record Passed (t : Settings) (slots : List ℕ) (L p : ℕ) (r : Searched) : Type 0 where
-  pub place : r .place ≡ found-or t L p 1 (held t slots L p) Absent
-  pub vacancy : r .vacancy ≡ vacancy-of t L p (lowest (free t slots L p) (passed-over t (held t slots L p)))
+pub record Passed (t : Settings) (slots : List ℕ) (p L : ℕ) (r : Searched) : Type 0 where
+  pub place : r .place ≡ found-or t p L 1 (held t slots p L) Absent
+  pub vacancy : r .vacancy ≡ vacancy-of t p L (lowest (free t slots p L) (passed-over t (held t slots p L)))

@@ -9,7 +9,7 @@ use Rattle.rules.specs.Table.{prefix, slot-number, mark-at, prefix-at, occupied
 use Rattle.buckets.specs.declared.Turn.{Turn}
 
 -- L is the longest length whose bit is set in v
-pub record Longest (v L : ℕ) : Type 0 where
+pub record Highest (v L : ℕ) : Type 0 where
   pub low : 1 ≤ L
   pub high : L ≤ 32
   pub reached : 2 ^ (L - 1) ≤ v
@@ -17,9 +17,9 @@ pub record Longest (v L : ℕ) : Type 0 where
 
 -- the turn is at the longest of the lengths, and leaves the others
 pub record Turned (t : Settings) (address lengths : ℕ) (turn : Turn) : Type 0 where
-  pub longest : Longest lengths (turn .length)
-  pub own : turn .p ≡ prefix (turn .length) address
-  pub from : turn .first ≡ slot-number t (turn .length) (turn .p) 0
+  pub longest : Highest lengths (turn .length)
+  pub own : turn .p ≡ prefix address (turn .length)
+  pub from : turn .first ≡ slot-number t (turn .p) (turn .length) 0
   pub rest : turn .left ≡ lengths - 2 ^ (turn .length - 1)
 
 -- slot n, by its number, is occupied and holds p

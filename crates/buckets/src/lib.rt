@@ -43,7 +43,7 @@ pub fn is_occupied(mark: u32) -> bool
 // The number of the first slot of a prefix's bucket at a length.
 fn first_slot(settings: Settings, p: u32, length: u32) -> usize
     requires { ⌜ Ready settings length ⌝ }
-    ensures { λ r. ⌜ r ≡ slot-number settings length p 0 ⌝ }
+    ensures { λ r. ⌜ r ≡ slot-number settings p length 0 ⌝ }
 {
     let bucket = bucket_of(settings, p) as usize;
     ((((length - 1) as usize) << (settings.e as usize)) + bucket) * (settings.s as usize)
@@ -164,7 +164,7 @@ fn first_of(vacancy: Vacancy, slot: usize) -> Vacancy
 pub fn search_bucket(settings: Settings, slots: &[u32], p: u32, length: u32) -> Searched
     requires { ⌜ Ready settings length ⌝ }
     requires { ⌜ Slots settings (now slots) ⌝ }
-    ensures { λ r. ⌜ Passed settings (now (slots .entry)) length p r ⌝ }
+    ensures { λ r. ⌜ Passed settings (now (slots .entry)) p length r ⌝ }
 {
     let first = first_slot(settings, p, length);
     let mut vacancy = Vacancy::Full;

@@ -27,7 +27,7 @@ use Rattle.promises.specs.Calls.{Made, calls-of, on-paper}
 use Rattle.promises.proofs.Calls as table
 use Rattle.promises.proofs.Conditions.{first-met, numbered, given-exactly, none-exactly as none-met, memory-then}
 use Rattle.promises.proofs.Lists.{same-checks}
-use Rattle.c_promises.specs.Numbers.{gateway-refusal, word-at, address-at, found-at, hop-at, length-at, probes-at, Finds, SaysAt, FindsAt, SaysNoneAt}
+use Rattle.c_promises.specs.Numbers.{gateway-refusal, word-at, list-address, found-at, hop-at, length-at, probes-at, Finds, SaysAt, FindsAt, SaysNoneAt}
 use Rattle.c_promises.specs.Calls.{LookedUp, ListedUp, list-conditions, SameLists, Ran, told, Served}
 use Rattle.c_promises.proofs.Unpacking.{lookup-parts, words-again}
 use Rattle.c_promises.proofs.Runs.{ran-on, words-given, served-on, calls-told}
@@ -149,22 +149,22 @@ module _ {t : Settings} {counters slots addresses results results' : List ℕ} {
 
   module _ (accepted : gateway-refusal answer ≡ 0) (i : ℕ) (there : i < length addresses / 4) where
     -- Address i is below 2^32, as gateway_lookup's is.
-    pub address-small : address-at addresses i < 2 ^ 32
-    unfolding address-at
+    pub address-small : list-address addresses i < 2 ^ 32
+    unfolding list-address
     address-small = word-small addresses (asked .bytes) (4 * i)
 
     inside : i < length (words addresses)
     inside = omega (arith, count-whole addresses (asked-fits accepted .1))
 
-    four-words : (k from : ℕ) → k < 4 → from ≡ 4 * (4 * i + k) → word-at results' from ≡ getD (answer-words (lookup t (lent counters slots) (address-at addresses i))) k 0
-    unfolding address-at word-at
+    four-words : (k from : ℕ) → k < 4 → from ≡ 4 * (4 * i + k) → word-at results' from ≡ getD (answer-words (lookup t (lent counters slots) (list-address addresses i))) k 0
+    unfolding list-address word-at
     four-words k from four e = rw (results-left accepted, ← word-is addresses i inside) (result-word t (lent counters slots) (words addresses) i k from inside four e)
 
     -- Result i says what gateway_lookup of address i says.
-    pub result-says : {one : ℕ} → LookedUp t counters slots (address-at addresses i) one → SaysAt results' i one
+    pub result-says : {one : ℕ} → LookedUp t counters slots (list-address addresses i) one → SaysAt results' i one
     unfolding found-at hop-at length-at probes-at answer-words
     result-says {one} looked =
-        let parts = rw words-again at (lookup-parts t counters (bytes-of slots) (address-at addresses i) one (looked .crossed)) in
+        let parts = rw words-again at (lookup-parts t counters (bytes-of slots) (list-address addresses i) one (looked .crossed)) in
         record {
           found = four-words 0 (16 * i) (omega arith) (omega arith) ∙ sym (parts .found);
           hop = four-words 1 (16 * i + 4) (omega arith) (omega arith) ∙ sym (parts .hop);
@@ -204,7 +204,7 @@ module _ {t : Settings} {log : List Made} {counters slots addresses results resu
 
   module _ (accepted : gateway-refusal answer ≡ 0) (i : ℕ) (there : i < length addresses / 4) where
     abbrev address : ℕ
-    address = address-at addresses i
+    address = list-address addresses i
 
     -- what gateway_lookup gives of it
     abbrev one : ℕ

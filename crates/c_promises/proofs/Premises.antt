@@ -8,7 +8,7 @@ use lib.Dec.{eqb, lit<}
 use lib.ListN.{replicate}
 use Rattle.rules.specs.declared.Settings.{Settings}
 use Rattle.rules.specs.Table.{Memory, lent, answer-words, list-words, Listed, list-refusal, listed, fourfold, whole-words, words, c-lookup, bytes-of, c-list-refusal, c-lookup-list}
-use Rattle.rules.proofs.Worked.{ip, T, same}
+use Rattle.rules.proofs.Worked.{ip, T, same-words}
 use Rattle.rules.proofs.Members.{both}
 use Rattle.promises.specs.History.{Call, Clear, Add, Withdraw, word-sized, all-word-sized, act}
 use Rattle.promises.specs.Demands.{matches, longest, longer}
@@ -16,7 +16,7 @@ use Rattle.promises.specs.Calls.{Made, numbers-of, on-paper}
 use Rattle.promises.proofs.Paper.{route}
 use Rattle.promises.proofs.Matches.{right}
 use Rattle.promises.proofs.Agree.{sevens, computing}
-use Rattle.c_promises.specs.Numbers.{gateway-refusal, Finds, word-at, address-at, FindsAt}
+use Rattle.c_promises.specs.Numbers.{gateway-refusal, Finds, word-at, list-address, FindsAt}
 use Rattle.c_promises.specs.Calls.{ListedUp, Ran, Stop, Step, told, Served}
 use Rattle.c_promises.proofs.Promises.{finds-longest}
 use Rattle.c_promises.proofs.Lists.{list-finds-longest}
@@ -55,8 +55,8 @@ empty = act T Clear sevens .memory
 day-run : Run T (empty .counters) (empty .slots)
 day-run = run T (empty .counters) (empty .slots) day day-words
 
-day-answers : same (numbers-of (day-run .log)) (0 ∷ 0 ∷ 7 * 2 ^ 48 ∷ []) ≡ true
-unfolding day day-run run numbers-of same computing
+day-answers : same-words (numbers-of (day-run .log)) (0 ∷ 0 ∷ 7 * 2 ^ 48 ∷ []) ≡ true
+unfolding day day-run run numbers-of same-words computing
 day-answers = refl
 
 day-served : Served T (day-run .log) (day-run .last-counters) (day-run .last-slots)
@@ -95,11 +95,11 @@ list-asked : ListedUp T (day-run .last-counters) (day-run .last-slots) addresses
 unfolding bytes-of
 list-asked = record { bytes = refl; crossed = record { number = refl; results = refl } }
 
-list-words-met : same (words (list .results)) (1 ∷ 9 ∷ 8 ∷ 1 ∷ 0 ∷ 0 ∷ 0 ∷ 0 ∷ []) ≡ true
-unfolding day day-run run same computing bytes-of words whole-words c-lookup-list c-list-refusal list-refusal listed fourfold list-words answer-words
+list-words-met : same-words (words (list .results)) (1 ∷ 9 ∷ 8 ∷ 1 ∷ 0 ∷ 0 ∷ 0 ∷ 0 ∷ []) ≡ true
+unfolding day day-run run same-words computing bytes-of words whole-words c-lookup-list c-list-refusal list-refusal listed fourfold list-words answer-words
 list-words-met = refl
 
 list-found-met : FindsAt (list .results) 0 (route (ip 10 0 0 0) 8 9)
-unfolding day day-run run told on-paper gateway-refusal longest longer matches computing bytes-of address-at word-at c-lookup-list c-list-refusal list-refusal listed fourfold
+unfolding day day-run run told on-paper gateway-refusal longest longer matches computing bytes-of list-address word-at c-lookup-list c-list-refusal list-refusal listed fourfold
 list-found-met =
     list-finds-longest day-served list-asked refl 0 (lit< tt) (route (ip 10 0 0 0) 8 9) (right (ip 10 2 2 3) (on-paper [] (told (day-run .log))))

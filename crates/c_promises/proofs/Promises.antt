@@ -57,7 +57,7 @@ module _ {t : Settings} {call : Call} {counters slots counters' slots' : List �
 
 -- An add of a prefix that is stored gives back and leaves what a change of it does, and every counter stays.
 module _ {t : Settings} {p L hop : ℕ} {counters slots counters' slots' : List ℕ} {answer : ℕ}
-    (made : Updated t (Add p L hop) counters slots answer counters' slots') (stands : there t slots L p ≡ true) where
+    (made : Updated t (Add p L hop) counters slots answer counters' slots') (stands : there t slots p L ≡ true) where
   pub stored-changes : Updated t (Change p L hop) counters slots answer counters' slots'
   unfolding word-sized
   stored-changes = record { word = made .word; crossed = rw (demand-1.stored-changes t (lent counters slots) p L hop stands) at (made .crossed) }

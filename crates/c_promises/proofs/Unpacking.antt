@@ -14,7 +14,7 @@ use Rattle.rules.specs.declared.Answer.{Answer}
 use Rattle.rules.specs.declared.Vector.{Vector}
 use Rattle.rules.specs.declared.Settings.{Settings}
 use Rattle.rules.specs.Tools.{all}
-use Rattle.rules.specs.Table.{slots-size, Memory, memory-refusal, Update, lent, left, whole-words, words, one-if, answer-number, vector-number, lookup, match-vector, vector-of, c-lookup, c-match-vector, bytes-of}
+use Rattle.rules.specs.Table.{slots-size, Memory, memory-refusal, Outcome, lent, left, whole-words, words, one-if, answer-number, vector-number, lookup, match-vector, vector-of, c-lookup, c-match-vector, bytes-of}
 use Rattle.rules.proofs.Members.{both}
 use Rattle.rules.proofs.Vectors.{bits-lt}
 use Rattle.c_words.proofs.Bytes.{four-each}
@@ -71,7 +71,7 @@ vector-parts t counters bytes address answer given = let small = vector-small t 
 
 -- ---- Updates
 
-module _ {u : Update} {answer : ℕ} {counters slots : List ℕ} (crossed : Crossed u answer counters slots) where
+module _ {u : Outcome} {answer : ℕ} {counters slots : List ℕ} (crossed : Crossed u answer counters slots) where
   -- an update's number is its refusal, and what it leaves is what the rules leave
   pub update-unpacked : u ≡ left (gateway-refusal answer) counters slots
   unfolding gateway-refusal

@@ -60,8 +60,8 @@ unfoldable pub word-at : (bytes : List ℕ) (from : ℕ) → ℕ
 word-at bytes from = getD bytes from 0 + getD bytes (from + 1) 0 * 2 ^ 8 + getD bytes (from + 2) 0 * 2 ^ 16 + getD bytes (from + 3) 0 * 2 ^ 24
 
 -- address i
-unfoldable pub address-at : (addresses : List ℕ) (i : ℕ) → ℕ
-address-at addresses i = word-at addresses (4 * i)
+unfoldable pub list-address : (addresses : List ℕ) (i : ℕ) → ℕ
+list-address addresses i = word-at addresses (4 * i)
 
 -- found of result i, a struct gateway_result of sixteen bytes, as the three that follow
 unfoldable pub found-at : (results : List ℕ) (i : ℕ) → ℕ

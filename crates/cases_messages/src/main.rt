@@ -669,7 +669,7 @@ fn update(
             hops,
         ));
     } else {
-        let report = message_calls::update(t, counters, slots, message, hops);
+        let report = message_calls::apply_message(t, counters, slots, message, hops);
         digits(report.refusal as u64);
         digits(report.accepted as u64);
         digits(report.refused as u64);

@@ -18,7 +18,7 @@ places-left t L growth step g =
 
 module _ (t : Settings) (L growth : ℕ) where
   -- before the first step all are left
-  pub all-left : (p : ℕ) {g : ℕ} → growth ≡ wrap (t .b * p) → g ≡ wrap (t .a * p) → counter-places t L p ≡ places-left t L growth 0 g
+  pub all-left : (p : ℕ) {g : ℕ} → growth ≡ wrap (t .b * p) → g ≡ wrap (t .a * p) → counter-places t p L ≡ places-left t L growth 0 g
   unfolding counter-places positions steps places-left
   all-left p by first =
       let many : t .k - 0 ≡ t .k = omega arith in
@@ -34,7 +34,7 @@ module _ (t : Settings) (L growth : ℕ) where
 
   -- so the first place is that of the first number, and the rest are left after it
   pub first-left : (p : ℕ) {g place next : ℕ} → growth ≡ wrap (t .b * p) → g ≡ wrap (t .a * p) → 0 < t .k → Placed t L g place
-      → next ≡ (g + growth) % 2 ^ 32 → counter-places t L p ≡ place ∷ places-left t L growth 1 next
+      → next ≡ (g + growth) % 2 ^ 32 → counter-places t p L ≡ place ∷ places-left t L growth 1 next
   first-left p by first some at next = all-left p by first ∙ one-left 0 some at next
 
   -- after the last step none is left
@@ -45,15 +45,15 @@ module _ (t : Settings) (L growth : ℕ) where
       rw many
 
 -- an array with the places of the steps so far
-pub record Written (t : Settings) (L p growth : ℕ) (at : List ℕ) (step g : ℕ) : Type 0 where
+pub record Written (t : Settings) (p L growth : ℕ) (at : List ℕ) (step g : ℕ) : Type 0 where
   pub size : length at ≡ 8
-  pub ends : counter-places t L p ≡ take step at ++ places-left t L growth step g
+  pub ends : counter-places t p L ≡ take step at ++ places-left t L growth step g
   pub few : step ≤ t .k
 
-module _ {t : Settings} {L p growth step g : ℕ} {at : List ℕ} (w : Written t L p growth at step g) where
+module _ {t : Settings} {p L growth step g : ℕ} {at : List ℕ} (w : Written t p L growth at step g) where
   -- a place is written behind those before it
   pub one-written : {place next : ℕ} → step < t .k → step < 8 → Placed t L g place → next ≡ (g + growth) % 2 ^ 32
-      → Written t L p growth (set at step place) (step + 1) next
+      → Written t p L growth (set at step place) (step + 1) next
   one-written {place} {next} less fits there grown =
       let inside : step < length at = omega (arith, w .size) in
       record {
@@ -66,7 +66,7 @@ module _ {t : Settings} {L p growth step g : ℕ} {at : List ℕ} (w : Written t
       }
 
   -- after the last step the first K are the places
-  pub all-written : t .k ≤ step → take (t .k) at ≡ counter-places t L p
+  pub all-written : t .k ≤ step → take (t .k) at ≡ counter-places t p L
   all-written done =
       ap (λ (n : ℕ). take n at) (le-antisymm done (w .few))
       ∙ sym (w .ends ∙ ap (λ (l : List ℕ). take step at ++ l) (none-left t L growth step g done) ∙ append-nil (take step at))

@@ -119,7 +119,7 @@ module _ {step : Step} {k : ℕ} {at entry counters : List ℕ} {i : ℕ} (s : S
 -- ---- Callers
 
 -- The places of p at length L.
-module _ {t : Settings} {L p : ℕ} {places : List ℕ} (of : PlacesOf t L p places) where
+module _ {t : Settings} {p L : ℕ} {places : List ℕ} (of : PlacesOf t p L places) where
   -- they are the counters'
   pub inside-of : {counters : List ℕ} → Ready t L → Counters t counters → Inside t counters places
   unfolding k-places
@@ -128,25 +128,25 @@ module _ {t : Settings} {L p : ℕ} {places : List ℕ} (of : PlacesOf t L p pla
         whole =
             record {
               few = ranges t (ready .range) .k-high;
-              all = rw (sym (length-take (t .k) places) ∙ ap length (of .are) ∙ places-length t L p) at (min-le-right (t .k) (length places));
+              all = rw (sym (length-take (t .k) places) ∙ ap length (of .are) ∙ places-length t p L) at (min-le-right (t .k) (length places));
             };
         inside = λ i less.
-            let there = among-getD (counter-places t L p) i (rw (places-length t L p) less) in
-            rw (sized .size, ← getD-take (t .k) places i 0 less, of .are) (counter-fits t L _ ready (places-inside t L p ready _ there));
+            let there = among-getD (counter-places t p L) i (rw (places-length t p L) less) in
+            rw (sized .size, ← getD-take (t .k) places i 0 less, of .are) (counter-fits t L _ ready (places-inside t p L ready _ there));
       }
 
   -- a raise passes 15, and a lowering runs short, as the rules say
-  pub cannot-raise : (counters : List ℕ) → some-cannot Raise counters (k-places t places) ≡ passes-15 t counters L p
+  pub cannot-raise : (counters : List ℕ) → some-cannot Raise counters (k-places t places) ≡ passes-15 t counters p L
   unfolding some-cannot passes-15 hits
   cannot-raise counters = ap (some-cannot Raise counters) (of .are)
 
-  pub cannot-lower : (counters : List ℕ) → some-cannot Lower counters (k-places t places) ≡ runs-short t counters L p
+  pub cannot-lower : (counters : List ℕ) → some-cannot Lower counters (k-places t places) ≡ runs-short t counters p L
   unfolding some-cannot runs-short hits
   cannot-lower counters = ap (some-cannot Lower counters) (of .are)
 
   -- and so are the counters stepped
-  pub raised : (counters : List ℕ) → step-each (stepped Raise) counters (k-places t places) ≡ step-each (λ n. n + 1) counters (counter-places t L p)
+  pub raised : (counters : List ℕ) → step-each (stepped Raise) counters (k-places t places) ≡ step-each (λ n. n + 1) counters (counter-places t p L)
   raised counters = ap (step-each (λ n. n + 1) counters) (of .are)
 
-  pub lowered : (counters : List ℕ) → step-each (stepped Lower) counters (k-places t places) ≡ step-each (λ n. n - 1) counters (counter-places t L p)
+  pub lowered : (counters : List ℕ) → step-each (stepped Lower) counters (k-places t places) ≡ step-each (λ n. n - 1) counters (counter-places t p L)
   lowered counters = ap (step-each (λ n. n - 1) counters) (of .are)

@@ -26,8 +26,8 @@ unfoldable pub k-places : Settings → (places : List ℕ) → List ℕ
 k-places t places = take (t .k) places
 
 -- they are those of p at length L
-pub record PlacesOf (t : Settings) (L p : ℕ) (places : List ℕ) : Type 0 where
-  pub are : k-places t places ≡ counter-places t L p
+pub record PlacesOf (t : Settings) (p L : ℕ) (places : List ℕ) : Type 0 where
+  pub are : k-places t places ≡ counter-places t p L
 
 -- the array has K places: it has room for no more than 8
 pub record Whole (t : Settings) (places : List ℕ) : Type 0 where

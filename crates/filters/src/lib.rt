@@ -75,7 +75,7 @@ pub fn claims_prefix(
     requires { ⌜ Ready settings length ⌝ }
     requires { ⌜ Counters settings (now counters) ⌝ }
     requires { ⌜ Filter settings length start bits ⌝ }
-    ensures { λ r. ⌜ r ≡ claims settings (now (counters .entry)) length p ⌝ }
+    ensures { λ r. ⌜ r ≡ claims settings (now (counters .entry)) p length ⌝ }
 {
     let once = product(settings.a, p);
     let first = place_of(settings, length, start, bits, once);
@@ -99,7 +99,7 @@ pub fn claims_prefix(
 // Where the counters of a prefix lie.
 pub fn places_of(settings: Settings, p: u32, length: u32) -> Places
     requires { ⌜ Ready settings length ⌝ }
-    ensures { λ r. ⌜ PlacesOf settings length p r ⌝ }
+    ensures { λ r. ⌜ PlacesOf settings p length r ⌝ }
 {
     let start = start_of(settings, length);
     let bits = settings.d[(length - 1) as usize] as u32;

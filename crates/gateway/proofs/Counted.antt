@@ -7,8 +7,8 @@ use lib.Dec.{eqb}
 use lib.ListN.{length}
 use Rattle.rules.specs.declared.Settings.{Settings}
 use Rattle.rules.specs.Tools.{within}
-use Rattle.rules.specs.Table.{list-in-range, in-range, Memory, lent, refuse, memory-refusal, route-refusal, add-refusal, withdraw-refusal, change-refusal, update, clear, add, withdraw, change, match-vector, vector-number, c-match-vector, refused, lookup, one-if, answer-number, c-lookup, listed, list-refusal, c-list-refusal, c-lookup-list, words}
-use Rattle.message_format.specs.Reading.{message-refusal, refused-message, update as do-message, report-number}
+use Rattle.rules.specs.Table.{list-in-range, in-range, Memory, lent, refuse, memory-refusal, route-refusal, add-refusal, withdraw-refusal, change-refusal, unless-refused, clear, add, withdraw, change, match-vector, vector-number, c-match-vector, refused, lookup, one-if, answer-number, c-lookup, listed, list-refusal, c-list-refusal, c-lookup-list, words}
+use Rattle.message_format.specs.Reading.{message-refusal, refused-message, apply-message as do-message, report-number}
 use Rattle.gateway.specs.Crossing.{Crossed, ListCrossed, MessageCrossed}
 
 module _ (t : Settings) (other : eqb (length (t .d)) 32 ≡ false) where
@@ -22,8 +22,8 @@ module _ (t : Settings) (other : eqb (length (t .d)) 32 ≡ false) where
 
   -- an update whose number is 1
   module _ (counters slots : List ℕ) {answer : ℕ} (number : answer ≡ 1 * 2 ^ 48) where
-    stopped : (refusal : ℕ) (after : Memory) → refusal ≡ 1 → Crossed (update refusal after (lent counters slots)) answer counters slots
-    unfolding update
+    stopped : (refusal : ℕ) (after : Memory) → refusal ≡ 1 → Crossed (unless-refused refusal after (lent counters slots)) answer counters slots
+    unfolding unless-refused
     stopped refusal after e = rw e (record { number = number; memory = refl })
 
     pub clear-stopped : Crossed (clear t (lent counters slots)) answer counters slots

@@ -2,13 +2,13 @@
 use Prim.Native.Nat.{ℕ, _*_, _^_}
 use mathlib.Core.Path.{_≡_, refl}
 use mathlib.Core.List.{List}
-use Rattle.rules.specs.Table.{Update, left, Listed, answered}
+use Rattle.rules.specs.Table.{Outcome, left, Listed, answered}
 use Rattle.message_format.specs.declared.Report.{Report}
 use Rattle.message_format.specs.Reading.{Read, reported, report-number}
 use Rattle.c_numbers.specs.Fitting.{RefusalFits, CountsFit}
 use Rattle.gateway.specs.Crossing.{Crossed, ListCrossed, MessageCrossed}
 
-module _ {u : Update} {refusal : ℕ} {counters slots : List ℕ} (ensured : u ≡ left refusal counters slots) where
+module _ {u : Outcome} {refusal : ℕ} {counters slots : List ℕ} (ensured : u ≡ left refusal counters slots) where
   pub fits-above : RefusalFits (u .refusal) → RefusalFits refusal
   fits-above fits = rw ensured at fits
 

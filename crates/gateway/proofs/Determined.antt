@@ -5,7 +5,7 @@ use mathlib.Core.Path.{_≡_, ap, sym, _∙_}
 use mathlib.Core.List.{List}
 use contract.Lifetimes.{Lfts}
 use denote.Ref.{now}
-use Rattle.rules.specs.Table.{Memory, Update}
+use Rattle.rules.specs.Table.{Memory, Outcome}
 use Rattle.gateway.specs.Crossing.{Crossed}
 use Rattle.gateway.proofs.Arguments.{past}
 use Rattle.gateway.proofs.gateway_clear.Reads as clear
@@ -19,7 +19,7 @@ use Rattle.gateway.proofs.gateway_update.Reads as update
 use Rattle.gateway.proofs.gateway_write_withdrawal.Reads as write-withdrawal
 
 -- the two lists that an update leaves stand after the settings
-alike : (u : Update) {r q : ℕ} {counters bytes slots words : List ℕ} → Crossed u r counters slots → Crossed u q bytes words
+alike : (u : Outcome) {r q : ℕ} {counters bytes slots words : List ℕ} → Crossed u r counters slots → Crossed u q bytes words
     → (r ≡ q) × ((counters ≡ bytes) × (slots ≡ words))
 alike u one other =
     let same = one .memory ∙ sym (other .memory) in

@@ -13,11 +13,11 @@ use borrow.Author.Tests.{ltb-true}
 use Rattle.rules.specs.declared.Settings.{Settings}
 use Rattle.rules.specs.declared.Place.{Place}
 use Rattle.rules.specs.Tools.{those}
-use Rattle.rules.specs.Table.{prefix, occupied, hop-of, default-mark, holds, held, Memory, refuse, memory-refusal, route-refusal, add-refusal, withdraw-refusal, change-refusal, update, clear, add, withdraw, change, match-vector, down-from, bit-set, set-bits, vector-of, found-or, search as searched, route-answer, default-answer, place-answer, refused, answer-of, lookup, list-refusal, listed, c-list-refusal, c-lookup-list}
+use Rattle.rules.specs.Table.{prefix, occupied, hop-of, default-mark, holds, held, Memory, refuse, memory-refusal, route-refusal, add-refusal, withdraw-refusal, change-refusal, unless-refused, clear, add, withdraw, change, match-vector, down-from, bit-set, set-bits, vector-of, found-or, search as searched, route-answer, default-answer, place-answer, refused, answer-of, lookup, list-refusal, listed, c-list-refusal, c-lookup-list}
 use Rattle.rules.proofs.Marks.{hop-high}
 use Rattle.rules.proofs.Members.{both}
 use Rattle.rules.proofs.Lowest.{some-lowest}
-use Rattle.message_format.specs.Reading.{message-refusal, read-routes, counts, refused-message, update as do-message}
+use Rattle.message_format.specs.Reading.{message-refusal, read-routes, counts, refused-message, apply-message as do-message}
 use Rattle.message_format.specs.Writing.{writing-refusal, write-withdrawal}
 use Rattle.message_format.proofs.Counting.{counts-fit}
 use Rattle.c_numbers.specs.Fitting.{refusals-end, RefusalFits, Fits, CountsFit}
@@ -39,19 +39,19 @@ unfolding memory-refusal
 memory-fits t m = search (refuse-fits, none-fits) depth 20
 
 pub clear-fits : (t : Settings) (m : Memory) → RefusalFits (clear t m .refusal)
-unfolding clear update
+unfolding clear unless-refused
 clear-fits = memory-fits
 
 pub add-fits : (t : Settings) (m : Memory) (p L hop : ℕ) → RefusalFits (add t m p L hop .refusal)
-unfolding add update add-refusal route-refusal memory-refusal
+unfolding add unless-refused add-refusal route-refusal memory-refusal
 add-fits t m p L hop = search (refuse-fits, none-fits) depth 20
 
 pub withdraw-fits : (t : Settings) (m : Memory) (p L : ℕ) → RefusalFits (withdraw t m p L .refusal)
-unfolding withdraw update withdraw-refusal route-refusal memory-refusal
+unfolding withdraw unless-refused withdraw-refusal route-refusal memory-refusal
 withdraw-fits t m p L = search (refuse-fits, none-fits) depth 20
 
 pub change-fits : (t : Settings) (m : Memory) (p L hop : ℕ) → RefusalFits (change t m p L hop .refusal)
-unfolding change update change-refusal route-refusal memory-refusal
+unfolding change unless-refused change-refusal route-refusal memory-refusal
 change-fits t m p L hop = search (refuse-fits, none-fits) depth 20
 
 pub list-fits : (t : Settings) (counters slots addresses results : List ℕ) → RefusalFits (c-lookup-list t counters slots addresses results .refusal)
@@ -104,12 +104,12 @@ few-lengths test (suc n) = go (test (suc n)) (few-lengths test n)
 
 module _ (t : Settings) (slots : List ℕ) (address ones : ℕ) where
   -- one bucket more in front of a search
-  found-fits : (L probes : ℕ) (o : Option ℕ) (after : Place) → held t slots L (prefix L address) ≡ o → L ≤ 32 → probes ≤ 32
-      → Fits (place-answer t slots ones after) → Fits (place-answer t slots ones (found-or t L (prefix L address) probes o after))
+  found-fits : (L probes : ℕ) (o : Option ℕ) (after : Place) → held t slots (prefix address L) L ≡ o → L ≤ 32 → probes ≤ 32
+      → Fits (place-answer t slots ones after) → Fits (place-answer t slots ones (found-or t (prefix address L) L probes o after))
   unfolding place-answer route-answer held holds
   found-fits L probes (some s) after h high few rest = record {
     refusal = omega arith;
-    hop = omega (arith, hop-high _ (both _ _ (some-lowest (holds t slots L (prefix L address)) (t .s) s h .passes) .0));
+    hop = omega (arith, hop-high _ (both _ _ (some-lowest (holds t slots (prefix address L) L) (t .s) s h .passes) .0));
     length = omega arith;
     probes = omega arith;
   }

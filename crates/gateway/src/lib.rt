@@ -7,7 +7,7 @@ ghost use mathlib.Core.Bool.{true};
 ghost use lib.Dec.{eqb};
 ghost use lib.ListN.{length};
 ghost use Rattle.rules.specs.Table.{lent, words, memory-refusal, lookup, match-vector, c-lookup, c-match-vector, answered, c-lookup-list, clear, add, withdraw, change};
-ghost use Rattle.message_format.specs.Reading.{update};
+ghost use Rattle.message_format.specs.Reading.{apply-message};
 ghost use Rattle.message_format.specs.Writing.{write-withdrawal};
 ghost use Rattle.gateway.specs.Crossing.{settings-of, Crossed, ListCrossed, MessageCrossed};
 use c_numbers::number_of_answer;
@@ -303,13 +303,13 @@ pub extern "C" fn gateway_update(
     message: &[u8],
     hops: &[u32],
 ) -> u64
-    ensures { λ r. ⌜ MessageCrossed (update (settings-of k (now (d .entry)) e s a b c) (lent (now (counters .entry)) (now (slots .entry))) (now (message .entry)) (now (hops .entry))) r (now (counters .exit)) (now (slots .exit)) ⌝ }
+    ensures { λ r. ⌜ MessageCrossed (apply-message (settings-of k (now (d .entry)) e s a b c) (lent (now (counters .entry)) (now (slots .entry))) (now (message .entry)) (now (hops .entry))) r (now (counters .exit)) (now (slots .exit)) ⌝ }
 {
     if !is_whole(d) {
         return refusal_part(1);
     }
     let settings = settings_of(k, d, e, s, a, b, c);
-    number_of_report(message_calls::update(settings, counters, slots, message, hops))
+    number_of_report(message_calls::apply_message(settings, counters, slots, message, hops))
 }
 
 // Writes the message that withdraws a route, into room of exactly its size.

@@ -8,12 +8,12 @@ use native.Mathlib.Omega.{arith}
 use lib.Dec.{leb}
 use borrow.Author.Tests.{leb-true}
 use Rattle.rules.specs.declared.Settings.{Settings}
-use Rattle.rules.specs.Table.{Memory, lent, left, Update, in-range, counters-size, slots-size}
+use Rattle.rules.specs.Table.{Memory, lent, left, Outcome, in-range, counters-size, slots-size}
 use Rattle.rules.proofs.Members.{both}
 use Rattle.rules.proofs.Prefixes.{prefix-again}
 use Rattle.updates.specs.Checked.{Checked}
 use Rattle.message_format.specs.declared.Report.{Report}
-use Rattle.message_format.specs.Format.{byte, Prefix, prefix-at, after-prefix, prefix-fits, prefixes}
+use Rattle.message_format.specs.Format.{byte, Prefix, prefix-from, after-prefix, prefix-fits, prefixes}
 use Rattle.message_format.specs.Reading.{counting, each, counts, reported}
 use Rattle.message_format.proofs.Walks.{after-prefix-later, fit-next, prefixes-none, prefixes-next}
 use Rattle.message_format.proofs.Counting.{counting-total}
@@ -21,12 +21,12 @@ use Rattle.message_cursors.specs.declared.Prefixes.{Prefixes}
 use Rattle.message_cursors.proofs.Steps.{Moved}
 use Rattle.message_calls.specs.Walks.{done, counted, so-many, Fitting}
 
-pub record Going (call : Memory → Prefix → Update) (message : List ℕ) (part : Prefixes) (earlier : Report) (m : Memory) (rest : Prefixes) (report : Report) (now : Memory) : Type 0 where
+pub record Going (call : Memory → Prefix → Outcome) (message : List ℕ) (part : Prefixes) (earlier : Report) (m : Memory) (rest : Prefixes) (report : Report) (now : Memory) : Type 0 where
   pub fitting : Fitting message rest report
   pub same-end : rest .end ≡ part .end
   pub same : done call message rest report now ≡ done call message part earlier m
 
-module _ {call : Memory → Prefix → Update} {message : List ℕ} {part : Prefixes} {earlier : Report} {m : Memory} {rest : Prefixes} {report : Report} {counters slots : List ℕ}
+module _ {call : Memory → Prefix → Outcome} {message : List ℕ} {part : Prefixes} {earlier : Report} {m : Memory} {rest : Prefixes} {report : Report} {counters slots : List ℕ}
     (g : Going call message part earlier m rest report (lent counters slots)) where
   -- there is room for one more
   pub few-yet : {p L : ℕ} {after : Prefixes} → Moved message rest p L after → report .accepted + report .refused ≤ 4096
@@ -45,7 +45,7 @@ module _ {call : Memory → Prefix → Update} {message : List ℕ} {part : Pref
       → {next : Report} → next ≡ counted report number → Going call message part earlier m after next (lent counters' slots')
   unfolding each counting
   goes-on moved {number} {counters'} {slots'} called is =
-      let q = prefix-at message (rest .at) in
+      let q = prefix-from message (rest .at) in
       let more = moved .more in
       let after = after-prefix message (rest .at) in
       let step : call (lent counters slots) q ≡ left number counters' slots' = rw (moved .length, moved .prefix) at called in
@@ -75,12 +75,12 @@ module _ {call : Memory → Prefix → Update} {message : List ℕ} {part : Pref
 
 -- a prefix that was read is a route, which the calls need not check again
 module _ {t : Settings} {message : List ℕ} {rest : Prefixes} {p L : ℕ} {after : Prefixes} (moved : Moved message rest p L after) where
-  pub checked : in-range t ≡ true → {counters slots : List ℕ} → length counters ≡ counters-size t → length slots ≡ slots-size t → Checked t counters slots L p
-  unfolding prefix-at prefix-fits
+  pub checked : in-range t ≡ true → {counters slots : List ℕ} → length counters ≡ counters-size t → length slots ≡ slots-size t → Checked t counters slots p L
+  unfolding prefix-from prefix-fits
   checked range counters-fit slots-fit = record {
     range = range;
     counters-fit = counters-fit;
     slots-fit = slots-fit;
     high = rw (moved .length) (leb-true _ _ (both (leb (byte message (rest .at)) 32) _ (moved .fits) .0));
-    tight = rw (moved .length, moved .prefix) (prefix-again (byte message (rest .at)) _);
+    tight = rw (moved .length, moved .prefix) (prefix-again _ (byte message (rest .at)));
   }

@@ -13,9 +13,9 @@ use Rattle.rules.proofs.Members.{both}
 use Rattle.rules.proofs.Refusals.{memory-passing}
 use Rattle.message_format.specs.declared.Report.{Report}
 use Rattle.message_format.specs.Format.{prefixes-fit, prefixes, header-good, withdrawn-from, withdrawn-to, attributes-from, announced-from, attributes-good, parts-fit, contents-good, well-formed, announces, withdrawn-prefixes, announced-prefixes}
-use Rattle.message_format.specs.Reading.{Counted, each, withdrawing, adding, none-yet, read-routes, is-hop, hop-or-0, hop-in, message-refusal, counts, refused-message, update, reported}
+use Rattle.message_format.specs.Reading.{Counted, each, withdrawing, adding, none-yet, read-routes, is-hop, hop-or-0, hop-in, message-refusal, counts, refused-message, apply-message, reported}
 use Rattle.message_format.proofs.Walks.{prefixes-none}
-use Rattle.message_format.proofs.Counting.{parts, each-total, prefixes-few, update-accepted, update-refused}
+use Rattle.message_format.proofs.Counting.{parts, each-total, prefixes-few, message-accepted, message-refused}
 use Rattle.message_calls.specs.Walks.{done, refused-report, so-many, Fitting}
 
 -- ---- Parts of a well-formed message
@@ -84,12 +84,12 @@ module _ (t : Settings) (counters slots message hops : List ℕ) where
   -- ---- The number
 
   refused-as : {number : ℕ} → message-refusal t (lent counters slots) message hops ≡ number → (number ≡ 0 → ⊥)
-      → update t (lent counters slots) message hops ≡ reported (refused-report number) counters slots
+      → apply-message t (lent counters slots) message hops ≡ reported (refused-report number) counters slots
   unfolding refused-message
-  refused-as e bad = update-refused t (lent counters slots) message hops (λ zero. bad (sym e ∙ zero)) ∙ rw e
+  refused-as e bad = message-refused t (lent counters slots) message hops (λ zero. bad (sym e ∙ zero)) ∙ rw e
 
   pub memory-refused : {number : ℕ} → number ≡ memory-refusal t (lent counters slots) 0 → (number ≡ 0 → ⊥)
-      → update t (lent counters slots) message hops ≡ reported (refused-report number) counters slots
+      → apply-message t (lent counters slots) message hops ≡ reported (refused-report number) counters slots
   unfolding message-refusal
   memory-refused e bad =
       refused-as (memory-passing t (lent counters slots) .refuses (λ zero. bad (e ∙ zero)) _ ∙ sym e) bad
@@ -99,13 +99,13 @@ module _ (t : Settings) (counters slots message hops : List ℕ) where
     unfolding message-refusal
     past-memory = memory-passing t (lent counters slots) .accepts memory _
 
-    pub twelve : well-formed message ≡ false → update t (lent counters slots) message hops ≡ reported (refused-report 12) counters slots
+    pub twelve : well-formed message ≡ false → apply-message t (lent counters slots) message hops ≡ reported (refused-report 12) counters slots
     unfolding refuse
     twelve bad = refused-as (past-memory ∙ rw bad) (suc-ne-zero 11)
 
     module _ (good : well-formed message ≡ true) where
       pub thirteen : announces message ≡ true → is-hop (hop-in message hops) ≡ false
-          → update t (lent counters slots) message hops ≡ reported (refused-report 13) counters slots
+          → apply-message t (lent counters slots) message hops ≡ reported (refused-report 13) counters slots
       unfolding refuse
       thirteen more bad = refused-as (past-memory ∙ rw (good, more, bad)) (suc-ne-zero 12)
 
@@ -115,8 +115,8 @@ module _ (t : Settings) (counters slots message hops : List ℕ) where
           → {r : Report} {counters' slots' : List ℕ} → counts (first t counters slots message) ≡ reported r counters' slots'
           → {last : Report} {counters″ slots″ : List ℕ}
           → counts (done (adding t hop) message (record { at = announced-from message; end = length message }) r (lent counters' slots')) ≡ reported last counters″ slots″
-          → update t (lent counters slots) message hops ≡ reported last counters″ slots″
+          → apply-message t (lent counters slots) message hops ≡ reported last counters″ slots″
       unfolding refuse read-routes withdrawn-prefixes announced-prefixes
       both-walks known is walked walked-on =
-          update-accepted t (lent counters slots) message hops (past-memory ∙ rw (good, known))
+          message-accepted t (lent counters slots) message hops (past-memory ∙ rw (good, known))
           ∙ rw (same-adds t message is _, counted-so walked .0) walked-on

@@ -5,7 +5,7 @@ use mathlib.Core.Bool.{true, not}
 use mathlib.Core.List.{List}
 use lib.Dec.{eqb}
 use lib.ListN.{length}
-use Rattle.rules.specs.Table.{Memory, Update, one-if}
+use Rattle.rules.specs.Table.{Memory, Outcome, one-if}
 use Rattle.message_format.specs.declared.Report.{Report}
 use Rattle.message_format.specs.Format.{Prefix, prefixes-fit, prefixes}
 use Rattle.message_format.specs.Reading.{Counted, each}
@@ -29,7 +29,7 @@ abbrev pub so-many : Report → Memory → Counted
 so-many report m = record { accepted = report .accepted; refused = report .refused; memory = m }
 
 -- what a walk over a part does, after the routes that a report has counted
-abbrev pub done : (call : Memory → Prefix → Update) (message : List ℕ) → Prefixes → Report → Memory → Counted
+abbrev pub done : (call : Memory → Prefix → Outcome) (message : List ℕ) → Prefixes → Report → Memory → Counted
 done call message part earlier m = each call (so-many earlier m) (prefixes message (part .at) (part .end))
 
 -- a part of a message whose prefixes fit, after fewer routes than bytes

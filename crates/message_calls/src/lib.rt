@@ -5,7 +5,7 @@ ghost use mathlib.Core.Path.{_≡_};
 ghost use mathlib.Core.Bool.{true};
 ghost use Rattle.rules.specs.Table.{lent, in-range};
 ghost use Rattle.rules.specs.Ready.{Counters, Slots};
-ghost use Rattle.message_format.specs.Reading.{withdrawing, adding, counts, update, reported};
+ghost use Rattle.message_format.specs.Reading.{withdrawing, adding, counts, apply-message, reported};
 ghost use Rattle.message_calls.specs.Walks.{done, refused-report, counted, Fitting};
 use message_cursors::NextPrefix;
 use message_cursors::Prefixes;
@@ -131,14 +131,14 @@ fn add_each(
 
 // Does one message: its withdrawn routes in order, then its announced ones, whose hop is the lowest place
 // of NEXT_HOP in the list. A route that the table refuses is counted and skipped.
-pub fn update(
+pub fn apply_message(
     settings: Settings,
     counters: &mut [u8],
     slots: &mut [u32],
     message: &[u8],
     hops: &[u32],
 ) -> Report
-    ensures { λ r. ⌜ update settings (lent (now (counters .entry)) (now (slots .entry))) (now (message .entry)) (now (hops .entry)) ≡ reported r (now (counters .exit)) (now (slots .exit)) ⌝ }
+    ensures { λ r. ⌜ apply-message settings (lent (now (counters .entry)) (now (slots .entry))) (now (message .entry)) (now (hops .entry)) ≡ reported r (now (counters .exit)) (now (slots .exit)) ⌝ }
 {
     let refusal = refuse_memory(settings, counters, slots);
     if refusal != 0 {

@@ -8,7 +8,7 @@ use lib.Dec.{ltb, leb}
 use native.Mathlib.Omega.{arith}
 use borrow.Author.Tests.{leb-true, ltb-true, ltb-false, lt-ltb, le-ltb, le-leb, lt-leb}
 use Rattle.rules.proofs.Members.{both}
-use Rattle.message_format.specs.Format.{byte, prefix-at, after-prefix, prefix-fits, extended, type-of, value-from, value-size, after-attribute, attribute-fits}
+use Rattle.message_format.specs.Format.{byte, prefix-from, after-prefix, prefix-fits, extended, type-of, value-from, value-size, after-attribute, attribute-fits}
 use Rattle.message_cursors.specs.declared.Prefixes.{Prefixes}
 use Rattle.message_cursors.specs.declared.NextPrefix.{NextPrefix}
 use Rattle.message_cursors.specs.declared.NextPrefix.the-variants as prefix
@@ -88,8 +88,8 @@ module _ {A : Type 0} (size at end : ℕ) (fits : Bool) (read nothing fault : A)
 pub record Moved (bytes : List ℕ) (c : Prefixes) (p L : ℕ) (rest : Prefixes) : Type 0 where
   pub more : c .at < c .end
   pub fits : prefix-fits bytes (c .at) (c .end) ≡ true
-  pub prefix : p ≡ prefix-at bytes (c .at) .prefix
-  pub length : L ≡ prefix-at bytes (c .at) .length
+  pub prefix : p ≡ prefix-from bytes (c .at) .prefix
+  pub length : L ≡ prefix-from bytes (c .at) .length
   pub now-at : rest ≡ record { at = after-prefix bytes (c .at); end = c .end }
 
 abbrev pub Told : (bytes : List ℕ) → Prefixes → NextPrefix → Type 0

@@ -4,7 +4,7 @@ use mathlib.Core.Bool.{Bool, cond}
 use mathlib.Core.List.{List}
 use lib.ListN.{length}
 use lib.Dec.{ltb}
-use Rattle.message_format.specs.Format.{Prefix, prefix-at, after-prefix, prefix-fits, type-of, value-from, value-size, after-attribute, attribute-fits}
+use Rattle.message_format.specs.Format.{Prefix, prefix-from, after-prefix, prefix-fits, type-of, value-from, value-size, after-attribute, attribute-fits}
 use Rattle.message_cursors.specs.declared.Prefixes.{Prefixes}
 use Rattle.message_cursors.specs.declared.NextPrefix.{NextPrefix}
 use Rattle.message_cursors.specs.declared.NextPrefix.the-variants as prefix
@@ -19,7 +19,7 @@ step size at end fits read ended fault = cond (ltb size end) fault (cond (ltb at
 -- the prefix at the cursor, with the cursor moved to where the next one starts
 unfoldable pub read-prefix : (bytes : List ℕ) → Prefixes → NextPrefix
 read-prefix bytes c =
-    let q = prefix-at bytes (c .at) in
+    let q = prefix-from bytes (c .at) in
     prefix.Prefix (q .prefix) (q .length) (record { at = after-prefix bytes (c .at); end = c .end })
 
 -- what a step over prefixes gives

@@ -3,7 +3,7 @@
 ghost use mathlib.Core.Path.{_≡_};
 ghost use Prim.Native.Nat.{_+_, _≤_, _<_};
 ghost use lib.ListN.{length};
-ghost use Rattle.message_format.specs.Format.{joined, two-bytes, four-bytes, address-at, octet, bytes-for, value-from, value-size};
+ghost use Rattle.message_format.specs.Format.{from-octets, two-bytes, four-bytes, address-at, octet, bytes-for, value-from, value-size};
 ghost use Rattle.message_cursors.specs.Steps.{next-prefix, next-attribute};
 use prefixes::prefix_of;
 
@@ -46,8 +46,8 @@ pub enum NextAttribute {
 }
 
 // The number of four bytes, the first one highest.
-fn join(b0: u8, b1: u8, b2: u8, b3: u8) -> u32
-    ensures { λ r. ⌜ r ≡ joined b0 b1 b2 b3 ⌝ }
+fn from_octets(b0: u8, b1: u8, b2: u8, b3: u8) -> u32
+    ensures { λ r. ⌜ r ≡ from-octets b0 b1 b2 b3 ⌝ }
 {
     b0 as u32 * 16777216 + b1 as u32 * 65536 + b2 as u32 * 256 + b3 as u32
 }
@@ -57,7 +57,7 @@ pub fn two_bytes(bytes: &[u8], at: usize) -> u32
     requires { ⌜ at + 2 ≤ length (now bytes) ⌝ }
     ensures { λ r. ⌜ r ≡ two-bytes (now (bytes .entry)) at ⌝ }
 {
-    join(0, 0, bytes[at], bytes[at + 1])
+    from_octets(0, 0, bytes[at], bytes[at + 1])
 }
 
 // The number in four bytes.
@@ -65,7 +65,7 @@ pub fn four_bytes(bytes: &[u8], at: usize) -> u32
     requires { ⌜ at + 4 ≤ length (now bytes) ⌝ }
     ensures { λ r. ⌜ r ≡ four-bytes (now (bytes .entry)) at ⌝ }
 {
-    join(bytes[at], bytes[at + 1], bytes[at + 2], bytes[at + 3])
+    from_octets(bytes[at], bytes[at + 1], bytes[at + 2], bytes[at + 3])
 }
 
 // How many bytes hold so many bits.
@@ -92,7 +92,7 @@ fn address_at(bytes: &[u8], at: usize, bits: u8) -> u32
     requires { ⌜ at + bytes-for bits ≤ length (now bytes) ⌝ }
     ensures { λ r. ⌜ r ≡ address-at (now (bytes .entry)) at bits ⌝ }
 {
-    join(
+    from_octets(
         octet(bytes, at, bits, 0),
         octet(bytes, at, bits, 1),
         octet(bytes, at, bits, 2),

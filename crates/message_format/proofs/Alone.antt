@@ -8,7 +8,7 @@ use lib.Dec.{ltb, leb, eqb}
 use lib.ListN.{length, List·getD-append}
 use borrow.Author.Tests.{ltb-true, leb-true, eqb-true}
 use Rattle.rules.proofs.Members.{both}
-use Rattle.message_format.specs.Format.{byte, joined, two-bytes, four-bytes, bytes-for, octet, address-at, prefix-at, after-prefix, prefix-fits, prefixes-fit, prefixes, extended, type-of, value-from, value-size, after-attribute, attribute-fits, attributes-fit, next-hops, at-most-one, attributes-good, first-hop, next-hop}
+use Rattle.message_format.specs.Format.{byte, from-octets, two-bytes, four-bytes, bytes-for, octet, address-at, prefix-from, after-prefix, prefix-fits, prefixes-fit, prefixes, extended, type-of, value-from, value-size, after-attribute, attribute-fits, attributes-fit, next-hops, at-most-one, attributes-good, first-hop, next-hop}
 use Rattle.message_format.proofs.Walks.{by-steps, with-hop, after-prefix-later, value-later, after-attribute-later, fit-none, fit-next, prefixes-none, prefixes-next, attributes-none, attributes-next, hops-none, hops-next}
 
 -- the bytes from a place up to an end are the same
@@ -46,8 +46,8 @@ module _ (bytes other : List ℕ) (end : ℕ) where
     unfolding after-prefix octet
     same-octet ends i = only-where (ltb i (bytes-for (byte bytes at))) (λ has. alike (at + 1 + i) (omega arith) (omega (arith, ltb-true i (bytes-for (byte bytes at)) has)))
 
-    same-prefix : prefix-fits bytes at end ≡ true → prefix-at bytes at ≡ prefix-at other at
-    unfolding prefix-fits prefix-at address-at
+    same-prefix : prefix-fits bytes at end ≡ true → prefix-from bytes at ≡ prefix-from other at
+    unfolding prefix-fits prefix-from address-at
     same-prefix fits =
         let octets = same-octet (leb-true _ _ (both (leb (byte bytes at) 32) _ fits .1)) in
         rw (← same-length, octets 0, octets 1, octets 2, octets 3)
@@ -88,8 +88,8 @@ module _ (bytes other : List ℕ) (end : ℕ) where
     same-size room = rw (← same-extended) (go (extended bytes at) room)
       where
         go : (long : Bool) → at + cond long 4 3 ≤ end
-            → cond long (joined 0 0 (byte bytes (at + 2)) (byte bytes (at + 2 + 1))) (byte bytes (at + 2))
-            ≡ cond long (joined 0 0 (byte other (at + 2)) (byte other (at + 2 + 1))) (byte other (at + 2))
+            → cond long (from-octets 0 0 (byte bytes (at + 2)) (byte bytes (at + 2 + 1))) (byte bytes (at + 2))
+            ≡ cond long (from-octets 0 0 (byte other (at + 2)) (byte other (at + 2 + 1))) (byte other (at + 2))
         go true room = rw (alike (at + 2) (omega arith) (omega arith), alike (at + 2 + 1) (omega arith) (omega arith))
         go false room = alike (at + 2) (omega arith) (omega arith)
 

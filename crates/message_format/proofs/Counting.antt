@@ -10,11 +10,11 @@ use lib.ListN.{length}
 use borrow.Author.Tests.{leb-true, eqb-true, eqb-false, ne-eqb, eq-eqb, not-false}
 use Rattle.rules.specs.declared.Settings.{Settings}
 use Rattle.rules.specs.Tools.{within}
-use Rattle.rules.specs.Table.{Memory, Update, one-if}
+use Rattle.rules.specs.Table.{Memory, Outcome, one-if}
 use Rattle.rules.proofs.Members.{both, within-true}
 use Rattle.rules.proofs.Refusals.{passed, memory-passed}
 use Rattle.message_format.specs.Format.{Prefix, after-prefix, prefixes, header-good, withdrawn-from, withdrawn-to, attributes-from, announced-from, parts-fit, withdrawn-prefixes, announced-prefixes, contents-good, well-formed, announces}
-use Rattle.message_format.specs.Reading.{Counted, counting, each, withdrawing, adding, none-yet, read-routes, hop-or-0, hop-in, is-hop, message-refusal, counts, refused-message, update}
+use Rattle.message_format.specs.Reading.{Counted, counting, each, withdrawing, adding, none-yet, read-routes, hop-or-0, hop-in, is-hop, message-refusal, counts, refused-message, apply-message}
 use Rattle.message_format.proofs.Walks.{by-steps, after-prefix-later, prefixes-none, prefixes-next}
 
 -- ---- Each route is accepted or refused
@@ -24,7 +24,7 @@ abbrev pub total : Counted → ℕ
 total so-far = so-far .accepted + so-far .refused
 
 -- one single call more is one route more
-pub counting-total : (so-far : Counted) (u : Update) → total (counting so-far u) ≡ total so-far + 1
+pub counting-total : (so-far : Counted) (u : Outcome) → total (counting so-far u) ≡ total so-far + 1
 unfolding counting one-if
 counting-total so-far u = go (eqb (u .refusal) 0)
   where
@@ -33,7 +33,7 @@ counting-total so-far u = go (eqb (u .refusal) 0)
     go false = omega arith
 
 -- each prefix is counted once
-pub each-total : (call : Memory → Prefix → Update) (so-far : Counted) (qs : List Prefix) → total (each call so-far qs) ≡ total so-far + length qs
+pub each-total : (call : Memory → Prefix → Outcome) (so-far : Counted) (qs : List Prefix) → total (each call so-far qs) ≡ total so-far + length qs
 unfolding each
 each-total call so-far [] = omega arith
 each-total call so-far (q ∷ qs) =
@@ -102,23 +102,23 @@ message-passed t m message hops e =
 
 module _ (t : Settings) (m : Memory) (message hops : List ℕ) where
   -- An accepted message is given its routes' counts, and leaves the memory as they do.
-  pub update-accepted : message-refusal t m message hops ≡ 0 → update t m message hops ≡ counts (read-routes t m message hops)
-  unfolding update
-  update-accepted e = rw (eq-eqb _ 0 e)
+  pub message-accepted : message-refusal t m message hops ≡ 0 → apply-message t m message hops ≡ counts (read-routes t m message hops)
+  unfolding apply-message
+  message-accepted e = rw (eq-eqb _ 0 e)
 
   -- A refused one is given its number, and counts nothing.
-  pub update-refused : message-refusal t m message hops ≢ 0 → update t m message hops ≡ refused-message (message-refusal t m message hops) m
-  unfolding update
-  update-refused ne = rw (ne-eqb _ 0 ne)
+  pub message-refused : message-refusal t m message hops ≢ 0 → apply-message t m message hops ≡ refused-message (message-refusal t m message hops) m
+  unfolding apply-message
+  message-refused ne = rw (ne-eqb _ 0 ne)
 
   -- Whatever the message, both counts are below 4,096.
-  pub counts-fit : let r = update t m message hops .report in (r .accepted < 2 ^ 12) × (r .refused < 2 ^ 12)
+  pub counts-fit : let r = apply-message t m message hops .report in (r .accepted < 2 ^ 12) × (r .refused < 2 ^ 12)
   unfolding counts refused-message
   counts-fit = go (eqb (message-refusal t m message hops) 0) refl
     where
-      go : (b : Bool) → eqb (message-refusal t m message hops) 0 ≡ b → let r = update t m message hops .report in (r .accepted < 2 ^ 12) × (r .refused < 2 ^ 12)
+      go : (b : Bool) → eqb (message-refusal t m message hops) 0 ≡ b → let r = apply-message t m message hops .report in (r .accepted < 2 ^ 12) × (r .refused < 2 ^ 12)
       go true e =
           let none = eqb-true _ _ e in
           let few = routes-few message (message-passed t m message hops none .good) in
-          rw (update-accepted none) (omega (arith, routes-total t m message hops), omega (arith, routes-total t m message hops))
-      go false e = rw (update-refused (eqb-false _ _ e)) (omega arith, omega arith)
+          rw (message-accepted none) (omega (arith, routes-total t m message hops), omega (arith, routes-total t m message hops))
+      go false e = rw (message-refused (eqb-false _ _ e)) (omega arith, omega arith)

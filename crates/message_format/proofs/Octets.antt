@@ -14,7 +14,7 @@ pub record Bytes (p L n : ℕ) : Type 0 where
   pub many : bytes-for L ≡ n
   pub rest : p % 2 ^ (32 - 8 * n) ≡ 0
 
-module _ (p L : ℕ) (short : L ≤ 32) (tight : loose L p ≡ false) where
+module _ (p L : ℕ) (short : L ≤ 32) (tight : loose p L ≡ false) where
   bytes : Bytes p L (bytes-for L)
   unfolding prefix bytes-for
   bytes =
@@ -22,7 +22,7 @@ module _ (p L : ℕ) (short : L ≤ 32) (tight : loose L p ≡ false) where
       let apart : 32 - L ≡ 8 * n - L + (32 - 8 * n) = omega arith in
       record {
         many = refl;
-        rest = rw (← loose-false L p .0 tight, apart, pow-add 2 (8 * n - L) (32 - 8 * n), ← mul-assoc) (mul-mod-left _ _);
+        rest = rw (← loose-false p L .0 tight, apart, pow-add 2 (8 * n - L) (32 - 8 * n), ← mul-assoc) (mul-mod-left _ _);
       }
 
   -- what is so for each number of bytes is so

@@ -8,7 +8,7 @@ use native.Mathlib.Omega.{arith}
 use lib.Dec.{ltb, eqb}
 use borrow.Author.Tests.{ltb-true, ltb-false, lt-ltb, le-ltb}
 use Rattle.rules.specs.Tools.{all, those}
-use Rattle.message_format.specs.Format.{some-starts, starts, prefix-at, after-prefix, prefix-fits, prefixes-fit, prefixes, extended, type-of, value-from, after-attribute, attribute-fits, attributes-fit, next-hops}
+use Rattle.message_format.specs.Format.{some-starts, starts, prefix-from, after-prefix, prefix-fits, prefixes-fit, prefixes, extended, type-of, value-from, after-attribute, attribute-fits, attributes-fit, next-hops}
 
 -- a walk from a place to a later one, as long as the end is not reached
 module _ (end : ℕ) (after : ℕ → ℕ) (later : (at : ℕ) → at < after at) where
@@ -82,7 +82,7 @@ module _ (bytes : List ℕ) where
     unfolding prefixes
     prefixes-none e = rw (starts-none end (after-prefix bytes) after-prefix-later at e)
 
-    pub prefixes-next : at < end → prefixes bytes at end ≡ prefix-at bytes at ∷ prefixes bytes (after-prefix bytes at) end
+    pub prefixes-next : at < end → prefixes bytes at end ≡ prefix-from bytes at ∷ prefixes bytes (after-prefix bytes at) end
     unfolding prefixes
     prefixes-next l = rw (starts-next end (after-prefix bytes) after-prefix-later at l)
 

@@ -9,10 +9,10 @@ use mathlib.Core.Option.{Option, some, none}
 use lib.Dec.{eqb}
 use lib.ListN.{length, take, getD, set, replicate, length-append, length-replicate}
 use Rattle.rules.specs.Table.{Memory, add, withdraw, lookup, one-if}
-use Rattle.rules.proofs.Worked.{ip, settings, T, empty, figures, finds, told as written, sevens, Case, case, same, come-out, computing as rules-computing}
+use Rattle.rules.proofs.Worked.{ip, settings, T, empty, figures, finds, told as written, sevens, Case, case, same-words, come-out, computing as rules-computing}
 use Rattle.rules.proofs.Lowest.{lowest-here, lowest-none}
-use Rattle.message_format.specs.Format.{some-starts, starts, byte, joined, two-bytes, four-bytes, Prefix, bytes-for, octet, address-at, prefix-at, after-prefix, prefix-fits, prefixes-fit, prefixes, extended, type-of, value-from, value-size, after-attribute, attribute-fits, attributes-fit, next-hops, at-most-one, attributes-good, first-hop, next-hop, all-ones, header-good, withdrawn-to, attributes-from, announced-from, parts-fit, withdrawn-prefixes, announced-prefixes, announces, message-hop, contents-good, well-formed}
-use Rattle.message_format.specs.Reading.{place-in, hop-place, is-hop, hop-or-0, hop-in, message-refusal, counting, each, withdrawing, adding, read-routes, Read, counts, refused-message, update, report-number}
+use Rattle.message_format.specs.Format.{some-starts, starts, byte, from-octets, two-bytes, four-bytes, Prefix, bytes-for, octet, address-at, prefix-from, after-prefix, prefix-fits, prefixes-fit, prefixes, extended, type-of, value-from, value-size, after-attribute, attribute-fits, attributes-fit, next-hops, at-most-one, attributes-good, first-hop, next-hop, all-ones, header-good, withdrawn-to, attributes-from, announced-from, parts-fit, withdrawn-prefixes, announced-prefixes, announces, message-hop, contents-good, well-formed}
+use Rattle.message_format.specs.Reading.{place-in, hop-place, is-hop, hop-or-0, hop-in, message-refusal, counting, each, withdrawing, adding, read-routes, Read, counts, refused-message, apply-message, report-number}
 use Rattle.message_format.specs.Writing.{octets, prefix-bytes, withdrawal-size, withdrawal, writing-refusal, write-withdrawal}
 
 -- ---- What the cases are written in
@@ -92,7 +92,7 @@ leaves number accepted refused m = number ∷ accepted ∷ refused ∷ m .counte
 
 -- a message read on the table that holds 10.1/16
 abbrev read-there : List ℕ → List ℕ
-read-there bytes = told (update T held bytes hops)
+read-there bytes = told (apply-message T held bytes hops)
 
 -- it is refused with a number, and nothing is changed
 abbrev refused-there : (number : ℕ) → (bytes : List ℕ) → Case
@@ -162,9 +162,9 @@ whole =
 refusals : List Case
 refusals =
     -- M17: 1 before 2 before 12, and 12 before 13
-    case (told (update (settings 9 4 1 2 1 2 1) (record { counters = sevens 511; slots = sevens 257 }) [] [])) (leaves 1 0 0 (record { counters = sevens 511; slots = sevens 257 }))
-    ∷ case (told (update T (record { counters = sevens 511; slots = sevens 257 }) [] [])) (leaves 2 0 0 (record { counters = sevens 511; slots = sevens 257 }))
-    ∷ case (told (update T held (set sample 18 4) [])) (leaves 12 0 0 held)
+    case (told (apply-message (settings 9 4 1 2 1 2 1) (record { counters = sevens 511; slots = sevens 257 }) [] [])) (leaves 1 0 0 (record { counters = sevens 511; slots = sevens 257 }))
+    ∷ case (told (apply-message T (record { counters = sevens 511; slots = sevens 257 }) [] [])) (leaves 2 0 0 (record { counters = sevens 511; slots = sevens 257 }))
+    ∷ case (told (apply-message T held (set sample 18 4) [])) (leaves 12 0 0 held)
     ∷ all-refused 12
     -- M18: a first or a last byte of the marker that is not all ones
     (set sample 0 254
@@ -225,7 +225,7 @@ refusals =
     -- M32: it is not in the list
     ∷ set sample 39 3
     ∷ [])
-    ++ case (told (update T held sample [])) (leaves 13 0 0 held)
+    ++ case (told (apply-message T held sample [])) (leaves 13 0 0 held)
     ∷ []
 
 -- ---- What a message does
@@ -234,13 +234,13 @@ done : List Case
 done =
     -- M33: the worked message on the table that holds 10.1/16: three single calls, all accepted
     case (read-there sample) (leaves 0 3 0 (add T (add T (withdraw T held (ip 10 1 0 0) 16 .memory) (ip 192 0 2 0) 24 1 .memory) 0 0 1 .memory))
-    ∷ case (figures (lookup T (update T held sample hops .memory) (ip 192 0 2 7)) ++ figures (lookup T (update T held sample hops .memory) (ip 10 1 2 3))) (finds 1 24 1 ++ finds 1 0 0)
+    ∷ case (figures (lookup T (apply-message T held sample hops .memory) (ip 192 0 2 7)) ++ figures (lookup T (apply-message T held sample hops .memory) (ip 10 1 2 3))) (finds 1 24 1 ++ finds 1 0 0)
     -- M34: on an empty table: the withdrawal is refused, and counted
-    ∷ case (told (update T (empty T) sample hops)) (leaves 0 2 1 (add T (add T (empty T) (ip 192 0 2 0) 24 1 .memory) 0 0 1 .memory))
+    ∷ case (told (apply-message T (empty T) sample hops)) (leaves 0 2 1 (add T (add T (empty T) (ip 192 0 2 0) 24 1 .memory) 0 0 1 .memory))
     -- M35: with flags and lengths written otherwise it says the same
     ∷ case (read-there (message (16 ∷ 10 ∷ 1 ∷ []) (80 ∷ 3 ∷ 0 ∷ 4 ∷ 10 ∷ 9 ∷ 9 ∷ 1 ∷ 207 ∷ 1 ∷ 1 ∷ 0 ∷ []) (24 ∷ 192 ∷ 0 ∷ 2 ∷ 0 ∷ []))) (read-there sample)
     -- M36: bits after the length are cleared before the table is asked: 15 bits of 10.1 withdraw 10/15, and 7 bits of 11 add 10/7
-    ∷ case (told (update T (add T (empty T) (ip 10 0 0 0) 15 9 .memory) (message (15 ∷ 10 ∷ 1 ∷ []) [] []) [])) (leaves 0 1 0 (empty T))
+    ∷ case (told (apply-message T (add T (empty T) (ip 10 0 0 0) 15 9 .memory) (message (15 ∷ 10 ∷ 1 ∷ []) [] []) [])) (leaves 0 1 0 (empty T))
     ∷ case (read-there (announcing (7 ∷ 11 ∷ []))) (leaves 0 1 0 (add T held (ip 10 0 0 0) 7 1 .memory))
     -- M37: withdrawn routes go first, whatever is announced: the same route in both lists is stored after, and in their order
     ∷ case (read-there (message (16 ∷ 10 ∷ 1 ∷ 16 ∷ 10 ∷ 1 ∷ []) hop-1 (16 ∷ 10 ∷ 1 ∷ []))) (leaves 0 2 1 (add T (empty T) (ip 10 1 0 0) 16 1 .memory))
@@ -249,13 +249,13 @@ done =
     -- M39: a route that is stored gets the new hop; one that is announced twice is accepted twice
     ∷ case (read-there (announcing (16 ∷ 10 ∷ 1 ∷ 16 ∷ 10 ∷ 1 ∷ []))) (leaves 0 2 0 (add T held (ip 10 1 0 0) 16 1 .memory))
     -- M40: what only withdraws needs no NEXT_HOP, no list, and no place in it
-    ∷ case (told (update T held (message (16 ∷ 10 ∷ 1 ∷ []) [] []) [])) (leaves 0 1 0 (empty T))
-    ∷ case (told (update T held (message (16 ∷ 10 ∷ 1 ∷ []) hop-1 []) [])) (leaves 0 1 0 (empty T))
+    ∷ case (told (apply-message T held (message (16 ∷ 10 ∷ 1 ∷ []) [] []) [])) (leaves 0 1 0 (empty T))
+    ∷ case (told (apply-message T held (message (16 ∷ 10 ∷ 1 ∷ []) hop-1 []) [])) (leaves 0 1 0 (empty T))
     -- M41: 23 bytes that say nothing, and 4,096 that are one attribute, do nothing
     ∷ case (read-there (message [] [] [])) (leaves 0 0 0 held)
     ∷ case (read-there (replicate 16 255 ++ (16 ∷ 0 ∷ 2 ∷ 0 ∷ 0 ∷ 15 ∷ 233 ∷ 80 ∷ 2 ∷ 15 ∷ 229 ∷ replicate 4069 0))) (leaves 0 0 0 held)
     -- M42: the reports of M33, M34 and M31 as one number
-    ∷ case (map (λ r. report-number (r .report)) (update T held sample hops ∷ update T (empty T) sample hops ∷ update T held sample [] ∷ [])) (3 ∷ 4098 ∷ 3659174697238528 ∷ [])
+    ∷ case (map (λ r. report-number (r .report)) (apply-message T held sample hops ∷ apply-message T (empty T) sample hops ∷ apply-message T held sample [] ∷ [])) (3 ∷ 4098 ∷ 3659174697238528 ∷ [])
     ∷ []
 
 -- ---- The withdrawal of a route
@@ -274,7 +274,7 @@ routes =
 -- a route is stored, its withdrawal is written, and read: one is accepted, and the table is empty
 abbrev back : Prefix → Case
 back q =
-    case (told (update T (add T (empty T) (q .prefix) (q .length) 7 .memory) (withdrawal (q .prefix) (q .length)) [])) (leaves 0 1 0 (empty T))
+    case (told (apply-message T (add T (empty T) (q .prefix) (q .length) 7 .memory) (withdrawal (q .prefix) (q .length)) [])) (leaves 0 1 0 (empty T))
 
 withdrawals : List Case
 withdrawals =
@@ -299,7 +299,7 @@ withdrawals =
 
 -- to unfold this is to unfold all that a message computes with but the place of its hop
 unfoldable reading : ℕ
-unfolding byte joined two-bytes four-bytes bytes-for octet address-at prefix-at after-prefix prefix-fits some-starts starts prefixes-fit prefixes extended type-of value-from value-size after-attribute attribute-fits attributes-fit next-hops at-most-one attributes-good first-hop next-hop all-ones header-good withdrawn-to attributes-from announced-from parts-fit withdrawn-prefixes announced-prefixes announces message-hop contents-good well-formed is-hop hop-or-0 message-refusal counting each withdrawing adding read-routes counts refused-message update report-number octets prefix-bytes withdrawal-size withdrawal writing-refusal write-withdrawal rules-computing
+unfolding byte from-octets two-bytes four-bytes bytes-for octet address-at prefix-from after-prefix prefix-fits some-starts starts prefixes-fit prefixes extended type-of value-from value-size after-attribute attribute-fits attributes-fit next-hops at-most-one attributes-good first-hop next-hop all-ones header-good withdrawn-to attributes-from announced-from parts-fit withdrawn-prefixes announced-prefixes announces message-hop contents-good well-formed is-hop hop-or-0 message-refusal counting each withdrawing adding read-routes counts refused-message apply-message report-number octets prefix-bytes withdrawal-size withdrawal writing-refusal write-withdrawal rules-computing
 reading = 0
 
 -- and this is all
@@ -308,7 +308,7 @@ unfolding place-in hop-place hop-in reading
 computing = 0
 
 all-come-out : come-out (parts ++ whole ++ refusals ++ done ++ withdrawals) ≡ true
-unfolding parts whole refusals done withdrawals same come-out computing
+unfolding parts whole refusals done withdrawals same-words come-out computing
 all-come-out = refl
 
 -- ---- A long list of next hops
@@ -340,11 +340,11 @@ unfolding hop-in hop-place reading
 far-hop n = far-place n
 
 -- M48: place 65,535 is a hop
-far-taken : told (update T held sample (far 65535)) ≡ leaves 0 3 0 (add T (add T (withdraw T held (ip 10 1 0 0) 16 .memory) (ip 192 0 2 0) 24 65535 .memory) 0 0 65535 .memory)
+far-taken : told (apply-message T held sample (far 65535)) ≡ leaves 0 3 0 (add T (add T (withdraw T held (ip 10 1 0 0) 16 .memory) (ip 192 0 2 0) 24 65535 .memory) 0 0 65535 .memory)
 unfolding reading
 far-taken = rw (far-hop 65535)
 
 -- M49: place 65,536 is none
-far-refused : told (update T held sample (far 65536)) ≡ leaves 13 0 0 held
+far-refused : told (apply-message T held sample (far 65536)) ≡ leaves 13 0 0 held
 unfolding reading
 far-refused = rw (far-hop 65536)

@@ -11,10 +11,10 @@ use lib.Dec.{eqb}
 use borrow.Author.Tests.{le-leb}
 use Rattle.rules.specs.declared.Settings.{Settings}
 use Rattle.rules.specs.Tools.{within, all, those}
-use Rattle.rules.specs.Table.{Memory, Update, prefix, loose, refuse, memory-refusal, withdraw, one-if}
+use Rattle.rules.specs.Table.{Memory, Outcome, prefix, loose, refuse, memory-refusal, withdraw, one-if}
 use Rattle.rules.proofs.Prefixes.{loose-false}
-use Rattle.message_format.specs.Format.{byte, joined, two-bytes, some-starts, starts, Prefix, bytes-for, octet, address-at, prefix-at, after-prefix, prefix-fits, prefixes-fit, prefixes, attributes-fit, next-hops, at-most-one, attributes-good, first-hop, next-hop, all-ones, header-good, withdrawn-to, attributes-from, announced-from, parts-fit, withdrawn-prefixes, announced-prefixes, announces, message-hop, contents-good, well-formed}
-use Rattle.message_format.specs.Reading.{Read, update, message-refusal, read-routes, each, withdrawing, counting, counts, refused-message}
+use Rattle.message_format.specs.Format.{byte, from-octets, two-bytes, some-starts, starts, Prefix, bytes-for, octet, address-at, prefix-from, after-prefix, prefix-fits, prefixes-fit, prefixes, attributes-fit, next-hops, at-most-one, attributes-good, first-hop, next-hop, all-ones, header-good, withdrawn-to, attributes-from, announced-from, parts-fit, withdrawn-prefixes, announced-prefixes, announces, message-hop, contents-good, well-formed}
+use Rattle.message_format.specs.Reading.{Read, apply-message, message-refusal, read-routes, each, withdrawing, counting, counts, refused-message}
 use Rattle.message_format.specs.Writing.{octets, prefix-bytes, withdrawal-size, withdrawal}
 use Rattle.message_format.proofs.Octets.{by-bytes}
 
@@ -46,7 +46,7 @@ only p L = record {
 }
 
 -- what one single call is told as: it was accepted or refused, and left this memory
-unfoldable pub one-call : Update → Read
+unfoldable pub one-call : Outcome → Read
 one-call u =
     record {
       report = record { refusal = 0; accepted = one-if (eqb (u .refusal) 0); refused = one-if (not (eqb (u .refusal) 0)) };
@@ -58,14 +58,14 @@ pub withdrawal-length : (p L : ℕ) → L ≤ 32 → length (withdrawal p L) ≡
 unfolding withdrawal withdrawal-size prefix-bytes octets bytes-for
 withdrawal-length p L short = simp (length-append, length-take) (omega arith)
 
-module _ (p L : ℕ) (short : L ≤ 32) (tight : loose L p ≡ false) (word : p < 2 ^ 32) where
+module _ (p L : ℕ) (short : L ≤ 32) (tight : loose p L ≡ false) (word : p < 2 ^ 32) where
   -- bytes that are all of the prefix give it back
-  whole : (q : ℕ) → q ≡ p → only (prefix L q) L ≡ only p L
-  whole q e = rw (e, loose-false L p .0 tight)
+  whole : (q : ℕ) → q ≡ p → only (prefix q L) L ≡ only p L
+  whole q e = rw (e, loose-false p L .0 tight)
 
   -- all that is read in it: the five numbers of bytes one by one
   said : contents (withdrawal p L) ≡ only p L
-  unfolding contents byte joined two-bytes some-starts starts all those octet address-at prefix-at after-prefix prefix-fits prefixes-fit prefixes attributes-fit next-hops at-most-one attributes-good first-hop next-hop all-ones header-good withdrawn-to attributes-from announced-from parts-fit withdrawn-prefixes announced-prefixes announces message-hop contents-good well-formed octets prefix-bytes withdrawal-size withdrawal within
+  unfolding contents byte from-octets two-bytes some-starts starts all those octet address-at prefix-from after-prefix prefix-fits prefixes-fit prefixes attributes-fit next-hops at-most-one attributes-good first-hop next-hop all-ones header-good withdrawn-to attributes-from announced-from parts-fit withdrawn-prefixes announced-prefixes announces message-hop contents-good well-formed octets prefix-bytes withdrawal-size withdrawal within
   said =
       let few = le-leb L 32 short in
       by-bytes p L short tight
@@ -93,7 +93,7 @@ module _ (p L : ℕ) (short : L ≤ 32) (tight : loose L p ≡ false) (word : p 
   module _ (t : Settings) (m : Memory) (hops : List ℕ) where
     -- Reading it does and leaves what the single withdrawal does, whatever the table and the hops; memory that every call refuses
     -- is refused with its number.
-    pub reading-gives-it-back : update t m (withdrawal p L) hops
+    pub reading-gives-it-back : apply-message t m (withdrawal p L) hops
         ≡ cond (eqb (memory-refusal t m 0) 0) (one-call (withdraw t m p L)) (refused-message (memory-refusal t m 0) m)
-    unfolding update message-refusal read-routes each withdrawing counting counts refuse one-call
+    unfolding apply-message message-refusal read-routes each withdrawing counting counts refuse one-call
     reading-gives-it-back = simp (withdrawal-good, withdrawal-says, withdrawal-no-more .0, withdrawal-no-more .1 .0, zero-add)

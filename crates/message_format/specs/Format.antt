@@ -16,16 +16,16 @@ unfoldable pub byte : (bytes : List ℕ) (at : ℕ) → ℕ
 byte bytes at = getD bytes at 0
 
 -- four bytes as a number, the first one highest
-unfoldable pub joined : (b0 b1 b2 b3 : ℕ) → ℕ
-joined b0 b1 b2 b3 = b0 * 2 ^ 24 + b1 * 2 ^ 16 + b2 * 2 ^ 8 + b3
+unfoldable pub from-octets : (b0 b1 b2 b3 : ℕ) → ℕ
+from-octets b0 b1 b2 b3 = b0 * 2 ^ 24 + b1 * 2 ^ 16 + b2 * 2 ^ 8 + b3
 
 -- the number in the two bytes from a place on
 unfoldable pub two-bytes : (bytes : List ℕ) (at : ℕ) → ℕ
-two-bytes bytes at = joined 0 0 (byte bytes at) (byte bytes (at + 1))
+two-bytes bytes at = from-octets 0 0 (byte bytes at) (byte bytes (at + 1))
 
 -- the number in the four bytes from a place on
 unfoldable pub four-bytes : (bytes : List ℕ) (at : ℕ) → ℕ
-four-bytes bytes at = joined (byte bytes at) (byte bytes (at + 1)) (byte bytes (at + 2)) (byte bytes (at + 3))
+four-bytes bytes at = from-octets (byte bytes at) (byte bytes (at + 1)) (byte bytes (at + 2)) (byte bytes (at + 3))
 
 -- ---- What stands one after the other
 
@@ -42,8 +42,8 @@ starts after at end = some-starts after (end - at) at end
 
 -- a prefix and its length
 pub record Prefix : Type 0 where
-  pub length : ℕ
   pub prefix : ℕ
+  pub length : ℕ
 
 -- as many bytes as hold so many bits
 unfoldable pub bytes-for : (bits : ℕ) → ℕ
@@ -56,12 +56,12 @@ octet bytes at bits i = cond (ltb i (bytes-for bits)) (byte bytes (at + i)) 0
 -- the address that its octets are
 unfoldable pub address-at : (bytes : List ℕ) (at bits : ℕ) → ℕ
 address-at bytes at bits =
-    joined (octet bytes at bits 0) (octet bytes at bits 1) (octet bytes at bits 2) (octet bytes at bits 3)
+    from-octets (octet bytes at bits 0) (octet bytes at bits 1) (octet bytes at bits 2) (octet bytes at bits 3)
 
 -- a prefix: one byte with its length in bits, then as many bytes as hold them; the bits after the length are cleared
-unfoldable pub prefix-at : (bytes : List ℕ) (at : ℕ) → Prefix
-prefix-at bytes at =
-    record { length = byte bytes at; prefix = prefix (byte bytes at) (address-at bytes (at + 1) (byte bytes at)) }
+unfoldable pub prefix-from : (bytes : List ℕ) (at : ℕ) → Prefix
+prefix-from bytes at =
+    record { prefix = prefix (address-at bytes (at + 1) (byte bytes at)) (byte bytes at); length = byte bytes at }
 
 -- where the next one starts
 unfoldable pub after-prefix : (bytes : List ℕ) (at : ℕ) → ℕ
@@ -77,7 +77,7 @@ prefixes-fit bytes at end = all (λ here. prefix-fits bytes here end) (starts (a
 
 -- these prefixes, in their order
 unfoldable pub prefixes : (bytes : List ℕ) (at end : ℕ) → List Prefix
-prefixes bytes at end = map (prefix-at bytes) (starts (after-prefix bytes) at end)
+prefixes bytes at end = map (prefix-from bytes) (starts (after-prefix bytes) at end)
 
 -- ---- Path attributes
 

@@ -7,7 +7,7 @@ use lib.ListN.{length, getD}
 use lib.Dec.{leb, eqb}
 use Rattle.rules.specs.Tools.{lowest}
 use Rattle.rules.specs.declared.Settings.{Settings}
-use Rattle.rules.specs.Table.{Memory, lent, Update, add, withdraw, refuse, memory-refusal, one-if}
+use Rattle.rules.specs.Table.{Memory, lent, Outcome, add, withdraw, refuse, memory-refusal, one-if}
 use Rattle.message_format.specs.declared.Report.{Report}
 use Rattle.message_format.specs.Format.{Prefix, well-formed, announces, message-hop, withdrawn-prefixes, announced-prefixes}
 
@@ -53,25 +53,25 @@ pub record Counted : Type 0 where
   pub memory : Memory
 
 -- one single call more
-unfoldable pub counting : Counted → Update → Counted
-counting so-far update =
+unfoldable pub counting : Counted → Outcome → Counted
+counting so-far apply-message =
     record {
-      accepted = so-far .accepted + one-if (eqb (update .refusal) 0);
-      refused = so-far .refused + one-if (not (eqb (update .refusal) 0));
-      memory = update .memory;
+      accepted = so-far .accepted + one-if (eqb (apply-message .refusal) 0);
+      refused = so-far .refused + one-if (not (eqb (apply-message .refusal) 0));
+      memory = apply-message .memory;
     }
 
 -- a single call for each prefix, in their order
-unfoldable pub each : (call : Memory → Prefix → Update) → Counted → List Prefix → Counted
+unfoldable pub each : (call : Memory → Prefix → Outcome) → Counted → List Prefix → Counted
 each call so-far [] = so-far
 each call so-far (q ∷ qs) = each call (counting so-far (call (so-far .memory) q)) qs
 
 -- its withdrawal
-unfoldable pub withdrawing : Settings → Memory → Prefix → Update
+unfoldable pub withdrawing : Settings → Memory → Prefix → Outcome
 withdrawing t m q = withdraw t m (q .prefix) (q .length)
 
 -- its add, with a hop
-unfoldable pub adding : Settings → (hop : ℕ) → Memory → Prefix → Update
+unfoldable pub adding : Settings → (hop : ℕ) → Memory → Prefix → Outcome
 adding t hop m q = add t m (q .prefix) (q .length) hop
 
 -- nothing counted yet
@@ -106,8 +106,8 @@ unfoldable pub refused-message : (refusal : ℕ) → Memory → Read
 refused-message refusal m = record { report = record { refusal = refusal; accepted = 0; refused = 0 }; memory = m }
 
 -- a message, as it is given back and as it leaves the memory
-unfoldable pub update : Settings → Memory → (message hops : List ℕ) → Read
-update t m message hops =
+unfoldable pub apply-message : Settings → Memory → (message hops : List ℕ) → Read
+apply-message t m message hops =
     let refusal = message-refusal t m message hops in
     cond (eqb refusal 0) (counts (read-routes t m message hops)) (refused-message refusal m)
 

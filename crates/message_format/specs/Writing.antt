@@ -29,7 +29,7 @@ withdrawal p L =
 -- 3 and 4, as every update; then 18 for room that is not of exactly the message's size
 unfoldable pub writing-refusal : (p L room : ℕ) → ℕ
 writing-refusal p L room =
-    refuse (ltb 32 L) 3 (refuse (loose L p) 4 (refuse (not (eqb room (withdrawal-size L))) 18 0))
+    refuse (ltb 32 L) 3 (refuse (loose p L) 4 (refuse (not (eqb room (withdrawal-size L))) 18 0))
 
 -- the withdrawal message of a route, as it is given back and as it leaves the room
 unfoldable pub write-withdrawal : (p L : ℕ) (room : List ℕ) → Listed

@@ -13,7 +13,7 @@ use Rattle.rules.specs.Tools.{all as every, any, lowest, or-else}
 use Rattle.rules.specs.Table.{Memory, refuse, memory-refusal}
 use Rattle.rules.proofs.Lowest.{some-lowest}
 use Rattle.rules.proofs.Prefixes.{loose-low}
-use Rattle.message_format.specs.Format.{byte, bytes-for, prefix-at, after-prefix, prefix-fits, prefixes-fit, prefixes, value-size, attributes-fit, next-hops, at-most-one, attributes-good, all-ones, header-good, parts-fit, announces, message-hop, contents-good, well-formed}
+use Rattle.message_format.specs.Format.{byte, bytes-for, prefix-from, after-prefix, prefix-fits, prefixes-fit, prefixes, value-size, attributes-fit, next-hops, at-most-one, attributes-good, all-ones, header-good, parts-fit, announces, message-hop, contents-good, well-formed}
 use Rattle.message_format.specs.Reading.{place-in, hop-place, is-hop, hop-in, message-refusal}
 use Rattle.message_format.specs.Writing.{writing-refusal}
 use Rattle.message_format.proofs.Written.{withdrawal-length}
@@ -48,7 +48,7 @@ module _ (bytes : List ℕ) (end : ℕ) where
 
   -- prefixes that do not fit: one is longer than 32, or they take more bytes than the part has
   prefixes-bad : (at : ℕ) → not (prefixes-fit bytes at end) ≡ bad-prefixes bytes at end
-  unfolding bad-prefixes too-long size-of prefix-at
+  unfolding bad-prefixes too-long size-of prefix-from
   prefixes-bad = by-steps end (after-prefix bytes) (after-prefix-later bytes) (λ at. not (prefixes-fit bytes at end) ≡ bad-prefixes bytes at end)
       (λ at past. rw (fit-none bytes at end past, prefixes-none bytes at end past) (sym (le-ltb (end - at) 0 (omega arith))))
       (λ at inside rest.
@@ -128,7 +128,7 @@ message-numbered t m message hops = refl
 
 pub writing-first : (p L : ℕ) (room : List ℕ) → writing-refusal p L (length room) ≡ first-met (writing-conditions p L room)
 unfolding writing-refusal writing-conditions route-conditions first-met refuse
-writing-first p L room = rw (loose-low L p) (by-cases (ltb 32 L) (λ long. rw long)
+writing-first p L room = rw (loose-low p L) (by-cases (ltb 32 L) (λ long. rw long)
     (λ short. rw (short, withdrawal-length p L (ltb-false 32 L short))))
 
 pub writing-numbered : (p L : ℕ) (room : List ℕ) → numbered (writing-conditions p L room) ≡ true

@@ -32,9 +32,9 @@ use Rattle.gateway.specs.Crossing.{ListCrossed}
 use Rattle.gateway.proofs.Arguments.{settings, past}
 use Rattle.message_promises.specs.Heard.{heard-as, MessageEnsured, WrittenEnsured, Heard, Stop, Step, Ask, Hear, HeardServed}
 use Rattle.message_promises.specs.FromC.{Sent}
-use Rattle.message_calls.proofs.update
-use Rattle.message_calls.proofs.update.Kinds as update-kinds
-use Rattle.message_calls.proofs.update.Reads as update-reads
+use Rattle.message_calls.proofs.apply_message
+use Rattle.message_calls.proofs.apply_message.Kinds as update-kinds
+use Rattle.message_calls.proofs.apply_message.Reads as update-reads
 use Rattle.message_writers.proofs.write_withdrawal
 use Rattle.message_writers.proofs.write_withdrawal.Kinds as written-kinds
 use Rattle.message_writers.proofs.write_withdrawal.Reads as written-reads
@@ -47,7 +47,7 @@ use Rattle.gateway.proofs.gateway_write_withdrawal.Reads as c-written-reads
 
 -- ---- What a contract tells
 
-pub update-ensures : (κs : Lfts 4) (a : ArgsD update.signature κs) (r : ResD update.signature κs) (end : AtExit update.ended κs) → update-reads.Learnt κs a r end
+pub update-ensures : (κs : Lfts 4) (a : ArgsD apply_message.signature κs) (r : ResD apply_message.signature κs) (end : AtExit apply_message.ended κs) → update-reads.Learnt κs a r end
     → MessageEnsured (a .0) (now (a .1 .0)) (now (a .1 .1 .0)) (now (a .1 .1 .1 .0)) (now (a .1 .1 .1 .1 .0)) r (now (end .1 .0)) (now (end .1 .1 .0))
 update-ensures κs a r end learnt = learnt
 
@@ -77,12 +77,12 @@ module _ (w : World) (κs : Lfts 1) (qs : Shares 1) where
 
 -- That a message's bytes are bytes is told once it is looked at (⇛).
 module _ (w : World) (κs : Lfts 4) (qs : Shares 4) where
-  pub update-owned : (a : ArgsD update.signature κs) (vss : Valss (typesAt (update.signature .params) κs))
-      → ent (w .𝓤) (onEntry (w .𝓤) (w .H) (w .𝓖 .A) update.signature κs qs a vss) (fact (w .𝓤) (GoodsP κs update-kinds.ps a))
+  pub update-owned : (a : ArgsD apply_message.signature κs) (vss : Valss (typesAt (apply_message.signature .params) κs))
+      → ent (w .𝓤) (onEntry (w .𝓤) (w .H) (w .𝓖 .A) apply_message.signature κs qs a vss) (fact (w .𝓤) (GoodsP κs update-kinds.ps a))
   update-owned = owned w update-kinds.ps update-kinds.r κs qs
 
-  pub update-bytes-owned : (a : ArgsD update.signature κs) (vss : Valss (typesAt (update.signature .params) κs))
-      → ent (w .𝓤) (onEntry (w .𝓤) (w .H) (w .𝓖 .A) update.signature κs qs a vss) (w .H .⇛ (fact (w .𝓤) (areBytes (now (a .1 .1 .1 .0)) ≡ true)))
+  pub update-bytes-owned : (a : ArgsD apply_message.signature κs) (vss : Valss (typesAt (apply_message.signature .params) κs))
+      → ent (w .𝓤) (onEntry (w .𝓤) (w .H) (w .𝓖 .A) apply_message.signature κs qs a vss) (w .H .⇛ (fact (w .𝓤) (areBytes (now (a .1 .1 .1 .0)) ≡ true)))
   update-bytes-owned a vss = elements-owned w update-kinds.ps update-kinds.r κs qs a vss (fInt w8) 3 2 tt (a .1 .1 .1 .0) refl (all-bytes (now (a .1 .1 .1 .0)))
 
 module _ (w : World) (κs : Lfts 5) (qs : Shares 5) where
@@ -98,7 +98,7 @@ module _ (w : World) (κs : Lfts 5) (qs : Shares 5) where
 
 -- A message with its arguments at their own types, what these tell, and what its contract told of what it gave back and left.
 pub data MessageCalled : (t : Settings) (counters slots message hops : List ℕ) (report : Report) (counters' slots' : List ℕ) → Type 0 where
-  UpdateCalled : (κs : Lfts 4) (a : ArgsD update.signature κs) (r : ResD update.signature κs) (end : AtExit update.ended κs)
+  UpdateCalled : (κs : Lfts 4) (a : ArgsD apply_message.signature κs) (r : ResD apply_message.signature κs) (end : AtExit apply_message.ended κs)
       → GoodsP κs update-kinds.ps a → areBytes (now (a .1 .1 .1 .0)) ≡ true → update-reads.Learnt κs a r end
       → MessageCalled (a .0) (now (a .1 .0)) (now (a .1 .1 .0)) (now (a .1 .1 .1 .0)) (now (a .1 .1 .1 .1 .0)) r (now (end .1 .0)) (now (end .1 .1 .0))
 

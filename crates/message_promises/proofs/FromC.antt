@@ -13,7 +13,7 @@ use borrow.Author.Tests.{eqb-true, eqb-false}
 use Rattle.rules.specs.declared.Settings.{Settings}
 use Rattle.rules.specs.Table.{lent, answered}
 use Rattle.rules.proofs.Members.{both}
-use Rattle.message_format.specs.Reading.{Counted, counting, none-yet, update, report-number}
+use Rattle.message_format.specs.Reading.{Counted, counting, none-yet, apply-message, report-number}
 use Rattle.message_format.specs.Writing.{write-withdrawal}
 use Rattle.message_format.proofs.Counting.{counts-fit}
 use Rattle.gateway.specs.Crossing.{ListCrossed}
@@ -53,7 +53,7 @@ module _ {t : Settings} {counters slots message hops : List ℕ} {answer : ℕ} 
   pub message-ensured : MessageEnsured t counters slots message hops (read-report answer) counters' slots'
   unfolding report-number gateway-refusal gateway-accepted gateway-refused
   message-ensured =
-      let r = update t (lent counters slots) message hops .report in
+      let r = apply-message t (lent counters slots) message hops .report in
       let fit = counts-fit t (lent counters slots) message hops in
       rw (sent .crossed .number)
       (λ i. record {

@@ -8,8 +8,8 @@ use lib.ListN.{replicate}
 use Rattle.rules.specs.Table.{Memory, lookup, c-lookup, bytes-of}
 use Rattle.rules.proofs.Worked.{ip, T}
 use Rattle.message_format.specs.declared.Report.{Report}
-use Rattle.message_format.specs.Format.{byte, joined, two-bytes, four-bytes, some-starts, starts, bytes-for, octet, address-at, prefix-at, after-prefix, prefix-fits, prefixes-fit, prefixes, extended, type-of, value-from, value-size, after-attribute, attribute-fits, attributes-fit, next-hops, at-most-one, attributes-good, first-hop, next-hop, all-ones, header-good, withdrawn-to, attributes-from, announced-from, parts-fit, withdrawn-prefixes, announced-prefixes, announces, message-hop, contents-good, well-formed}
-use Rattle.message_format.specs.Reading.{place-in, hop-place, is-hop, hop-or-0, hop-in, message-refusal, counting, each, withdrawing, adding, read-routes, counts, update, report-number}
+use Rattle.message_format.specs.Format.{byte, from-octets, two-bytes, four-bytes, some-starts, starts, bytes-for, octet, address-at, prefix-from, after-prefix, prefix-fits, prefixes-fit, prefixes, extended, type-of, value-from, value-size, after-attribute, attribute-fits, attributes-fit, next-hops, at-most-one, attributes-good, first-hop, next-hop, all-ones, header-good, withdrawn-to, attributes-from, announced-from, parts-fit, withdrawn-prefixes, announced-prefixes, announces, message-hop, contents-good, well-formed}
+use Rattle.message_format.specs.Reading.{place-in, hop-place, is-hop, hop-or-0, hop-in, message-refusal, counting, each, withdrawing, adding, read-routes, counts, apply-message, report-number}
 use Rattle.promises.specs.History.{Add, Withdraw, word-sized, act}
 use Rattle.promises.specs.Demands.{Finds, matches, longest, longer}
 use Rattle.promises.specs.Calls.{Made, on-paper}
@@ -30,7 +30,7 @@ use Rattle.message_promises.proofs.Promises.{finds-longest}
 
 -- to unfold this is to unfold all that a message computes with
 unfoldable reading : ℕ
-unfolding byte joined two-bytes four-bytes some-starts starts bytes-for octet address-at prefix-at after-prefix prefix-fits prefixes-fit prefixes extended type-of value-from value-size after-attribute attribute-fits attributes-fit next-hops at-most-one attributes-good first-hop next-hop all-ones header-good withdrawn-to attributes-from announced-from parts-fit withdrawn-prefixes announced-prefixes announces message-hop contents-good well-formed place-in hop-place is-hop hop-or-0 hop-in message-refusal counting each withdrawing adding read-routes counts update withdrawals announcements message-calls made-by heard-as computing
+unfolding byte from-octets two-bytes four-bytes some-starts starts bytes-for octet address-at prefix-from after-prefix prefix-fits prefixes-fit prefixes extended type-of value-from value-size after-attribute attribute-fits attributes-fit next-hops at-most-one attributes-good first-hop next-hop all-ones header-good withdrawn-to attributes-from announced-from parts-fit withdrawn-prefixes announced-prefixes announces message-hop contents-good well-formed place-in hop-place is-hop hop-or-0 hop-in message-refusal counting each withdrawing adding read-routes counts apply-message withdrawals announcements message-calls made-by heard-as computing
 reading = 0
 
 abbrev message : List ℕ

@@ -11,9 +11,9 @@ use borrow.Author.Tests.{eq-eqb, ne-eqb}
 use Rattle.rules.specs.declared.Settings.{Settings}
 use Rattle.rules.specs.Table.{Memory, lent, listed}
 use Rattle.message_format.specs.declared.Report.{Report}
-use Rattle.message_format.specs.Reading.{message-refusal, counts, refused-message, update}
+use Rattle.message_format.specs.Reading.{message-refusal, counts, refused-message, apply-message}
 use Rattle.message_format.specs.Writing.{writing-refusal, withdrawal, write-withdrawal}
-use Rattle.message_format.proofs.Counting.{update-accepted, update-refused}
+use Rattle.message_format.proofs.Counting.{message-accepted, message-refused}
 use Rattle.promises.specs.Demands.{memory-conditions, route-conditions, NoneMet, FirstMet}
 use Rattle.promises.proofs.Conditions.{given-exactly, none-exactly}
 use Rattle.message_promises.specs.Heard.{MessageEnsured, WrittenEnsured, message-conditions, writing-conditions}
@@ -30,9 +30,9 @@ module _ (t : Settings) (counters slots message hops : List ℕ) (report : Repor
   unfolding counts refused-message
   its-refusal = sym (ap (λ r. r .report .refusal) ensured) ∙ go (ℕ-discrete (message-refusal t m message hops) 0)
     where
-      go : Dec (message-refusal t m message hops ≡ 0) → update t m message hops .report .refusal ≡ message-refusal t m message hops
-      go (yes good) = rw (update-accepted t m message hops good) (sym good)
-      go (no bad) = rw (update-refused t m message hops bad)
+      go : Dec (message-refusal t m message hops ≡ 0) → apply-message t m message hops .report .refusal ≡ message-refusal t m message hops
+      go (yes good) = rw (message-accepted t m message hops good) (sym good)
+      go (no bad) = rw (message-refused t m message hops bad)
 
   -- A number is given back exactly if its condition is met and none is of those before it in the list.
   pub numbers-in-order : (n : ℕ) → 1 ≤ n → (report .refusal ≡ n) ↔ FirstMet n (message-conditions t m message hops)
@@ -47,8 +47,8 @@ module _ (t : Settings) (counters slots message hops : List ℕ) (report : Repor
   unfolding message-conditions memory-conditions
   numbers-listed = refl
 
-  refused : report .refusal ≢ 0 → update t m message hops ≡ refused-message (message-refusal t m message hops) m
-  refused bad = update-refused t m message hops (λ good. bad (its-refusal ∙ good))
+  refused : report .refusal ≢ 0 → apply-message t m message hops ≡ refused-message (message-refusal t m message hops) m
+  refused bad = message-refused t m message hops (λ good. bad (its-refusal ∙ good))
 
   -- A refused message counts nothing,
   pub refused-counts-none : report .refusal ≢ 0 → (report .accepted ≡ 0) × (report .refused ≡ 0)

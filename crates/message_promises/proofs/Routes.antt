@@ -10,12 +10,12 @@ use lib.ListN.{length}
 use borrow.Author.Tests.{ltb-false}
 use Rattle.rules.specs.declared.Settings.{Settings}
 use Rattle.rules.specs.Tools.{those}
-use Rattle.rules.specs.Table.{Memory, Update, lent, one-if}
+use Rattle.rules.specs.Table.{Memory, Outcome, lent, one-if}
 use Rattle.message_format.specs.declared.Report.{Report}
 use Rattle.message_format.specs.Format.{Prefix, withdrawn-prefixes, announced-from, announced-prefixes, announces}
 use Rattle.message_format.specs.Reading.{Counted, counting, each, withdrawing, adding, none-yet, hop-or-0, is-hop, hop-in, message-refusal, read-routes, counts, reported}
 use Rattle.message_format.proofs.Walks.{prefixes-none}
-use Rattle.message_format.proofs.Counting.{Passed, message-passed, update-accepted, routes-total}
+use Rattle.message_format.proofs.Counting.{Passed, message-passed, message-accepted, routes-total}
 use Rattle.promises.specs.History.{Route, Call, Add, Withdraw, act, after, next-by, after-by}
 use Rattle.promises.specs.Calls.{Made, Ran, Stop, Step, numbers-of}
 use Rattle.promises.proofs.Calls.{met}
@@ -36,7 +36,7 @@ module _ (t : Settings) where
   each-append so-far (call ∷ calls) more = each-append (counting so-far (act t call (so-far .memory))) calls more
 
   -- a call for each prefix, which is one of the table's
-  each-made : (calling : Memory → Prefix → Update) (call : Prefix → Call) → ((m : Memory) (q : Prefix) → calling m q ≡ act t (call q) m)
+  each-made : (calling : Memory → Prefix → Outcome) (call : Prefix → Call) → ((m : Memory) (q : Prefix) → calling m q ≡ act t (call q) m)
       → (so-far : Counted) (qs : List Prefix) → each calling so-far qs ≡ each-call t so-far (map call qs)
   unfolding each each-call
   each-made calling call is so-far [] = refl
@@ -116,7 +116,7 @@ module _ (t : Settings) (counters slots message hops : List ℕ) (report : Repor
   none-met = sym (its-refusal t counters slots message hops report counters' slots' ensured) ∙ accepted
 
   told : reported report counters' slots' ≡ counts (each-call t (none-yet m) (message-calls message hops))
-  told = sym ensured ∙ update-accepted t m message hops none-met ∙ ap counts (read-calls t m message hops (message-passed t m message hops none-met))
+  told = sym ensured ∙ message-accepted t m message hops none-met ∙ ap counts (read-calls t m message hops (message-passed t m message hops none-met))
 
   pub message-left : lent counters' slots' ≡ each-call t (none-yet m) (message-calls message hops) .memory
   unfolding counts
@@ -148,4 +148,4 @@ module _ (t : Settings) (counters slots message hops : List ℕ) (report : Repor
   -- Together they are its routes, the withdrawn and the announced ones.
   pub routes-counted : report .accepted + report .refused ≡ length (withdrawn-prefixes message) + length (announced-prefixes message)
   unfolding counts
-  routes-counted = ap (λ r. r .report .accepted + r .report .refused) (sym ensured ∙ update-accepted t m message hops none-met) ∙ routes-total t m message hops
+  routes-counted = ap (λ r. r .report .accepted + r .report .refused) (sym ensured ∙ message-accepted t m message hops none-met) ∙ routes-total t m message hops

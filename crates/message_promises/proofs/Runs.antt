@@ -14,7 +14,7 @@ use Rattle.rules.specs.declared.Settings.{Settings}
 use Rattle.rules.specs.Table.{prefix, Memory, lent}
 use Rattle.rules.proofs.Members.{both}
 use Rattle.rules.proofs.Prefixes.{prefix-lt}
-use Rattle.message_format.specs.Format.{byte, joined, bytes-for, Prefix, octet, address-at, prefix-at, after-prefix, prefixes, withdrawn-from, withdrawn-to, announced-from, withdrawn-prefixes, announced-prefixes}
+use Rattle.message_format.specs.Format.{byte, from-octets, bytes-for, Prefix, octet, address-at, prefix-from, after-prefix, prefixes, withdrawn-from, withdrawn-to, announced-from, withdrawn-prefixes, announced-prefixes}
 use Rattle.message_format.specs.Reading.{hop-in}
 use Rattle.message_format.proofs.Walks.{by-steps, after-prefix-later, prefixes-none, prefixes-next}
 use Rattle.promises.specs.History.{Route, Call, Add, Withdraw, word-sized, all-word-sized, act, noted}
@@ -57,11 +57,11 @@ module _ (bytes : List ℕ) (small : areBytes bytes ≡ true) where
       go false = omega arith
 
   -- a prefix that is read from bytes is below 2^32
-  prefix-small : (at : ℕ) → prefix-at bytes at .prefix < 2 ^ 32
-  unfolding prefix-at address-at joined
+  prefix-small : (at : ℕ) → prefix-from bytes at .prefix < 2 ^ 32
+  unfolding prefix-from address-at from-octets
   prefix-small at =
       let L = byte bytes at in
-      prefix-lt L _ (omega (arith, octet-small (at + 1) L 0, octet-small (at + 1) L 1, octet-small (at + 1) L 2, octet-small (at + 1) L 3))
+      prefix-lt _ L (omega (arith, octet-small (at + 1) L 0, octet-small (at + 1) L 1, octet-small (at + 1) L 2, octet-small (at + 1) L 3))
 
   -- so each call that one is made into
   prefixes-small : (call : Prefix → Call) → ((q : Prefix) → q .prefix < 2 ^ 32 → word-sized (call q) ≡ true)
@@ -69,7 +69,7 @@ module _ (bytes : List ℕ) (small : areBytes bytes ≡ true) where
   unfolding all-word-sized
   prefixes-small call sized end = by-steps end (after-prefix bytes) (after-prefix-later bytes) (λ at. all-word-sized (map call (prefixes bytes at end)) ≡ true)
       (λ at past. rw (prefixes-none bytes at end past))
-      (λ at inside rest. rw (prefixes-next bytes at end inside, sized (prefix-at bytes at) (prefix-small at)) rest)
+      (λ at inside rest. rw (prefixes-next bytes at end inside, sized (prefix-from bytes at) (prefix-small at)) rest)
 
 all-then : (calls more : List Call) → all-word-sized calls ≡ true → all-word-sized more ≡ true → all-word-sized (calls ++ more) ≡ true
 unfolding all-word-sized

@@ -21,11 +21,11 @@ module _ (p L : ℕ) (word : p < 2 ^ 32) (room room' : List ℕ) (ensured : Writ
   written : room' ≡ withdrawal p L
   written = written-left p L room 0 room' ensured refl
 
-  route : (L ≤ 32) × (loose L p ≡ false)
+  route : (L ≤ 32) × (loose p L ≡ false)
   unfolding writing-refusal
   route =
       let three = passed (ltb 32 L) 2 _ (sym (written-refusal p L room 0 room' ensured)) in
-      (ltb-false 32 L (three .0), passed (loose L p) 3 _ (three .1) .0)
+      (ltb-false 32 L (three .0), passed (loose p L) 3 _ (three .1) .0)
 
   -- The message that was written is well-formed and announces nothing, so that it is given neither 12 nor 13.
   pub written-good : (hops : List ℕ) → (malformed room' ≡ false) × (no-hop room' hops ≡ false)

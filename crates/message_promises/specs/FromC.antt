@@ -7,7 +7,7 @@ use lib.Pow.{areBytes}
 use Rattle.rules.specs.declared.Settings.{Settings}
 use Rattle.rules.specs.Table.{lent}
 use Rattle.message_format.specs.declared.Report.{Report}
-use Rattle.message_format.specs.Reading.{update}
+use Rattle.message_format.specs.Reading.{apply-message}
 use Rattle.gateway.specs.Crossing.{MessageCrossed}
 use Rattle.promises.specs.History.{Call, Clear}
 use Rattle.promises.specs.Calls.{Made}
@@ -35,7 +35,7 @@ read-report answer = record { refusal = gateway-refusal answer; accepted = gatew
 -- what its contract ensures
 pub record Sent (t : Settings) (counters slots message hops : List ℕ) (answer : ℕ) (counters' slots' : List ℕ) : Type 0 where
   pub bytes : areBytes message ≡ true
-  pub crossed : MessageCrossed (update t (lent counters slots) message hops) answer counters' slots'
+  pub crossed : MessageCrossed (apply-message t (lent counters slots) message hops) answer counters' slots'
 
 -- ---- Runs
 

@@ -12,7 +12,7 @@ use Rattle.rules.specs.Tools.{any, those}
 use Rattle.rules.specs.Table.{Memory, lent, answered}
 use Rattle.message_format.specs.declared.Report.{Report}
 use Rattle.message_format.specs.Format.{byte, two-bytes, Prefix, bytes-for, prefixes, value-size, attributes-fit, next-hops, withdrawn-from, withdrawn-to, attributes-from, announced-from, withdrawn-prefixes, announced-prefixes, message-hop}
-use Rattle.message_format.specs.Reading.{hop-in, reported, update}
+use Rattle.message_format.specs.Reading.{hop-in, reported, apply-message}
 use Rattle.message_format.specs.Writing.{withdrawal, write-withdrawal}
 use Rattle.promises.specs.History.{Route, Call, Clear, Add, Withdraw, word-sized, act, noted}
 use Rattle.promises.specs.Demands.{Condition, _when_, outside, some-below, every-below, memory-conditions, route-conditions, number-given}
@@ -61,7 +61,7 @@ how-many test numbers = length (those test numbers)
 -- that of a message, as crates/message_calls has it: counters and slots are the lists at entry, those with a stroke the lists
 -- at exit
 abbrev pub MessageEnsured : Settings → (counters slots message hops : List ℕ) (report : Report) (counters' slots' : List ℕ) → Type 0
-MessageEnsured t counters slots message hops report counters' slots' = update t (lent counters slots) message hops ≡ reported report counters' slots'
+MessageEnsured t counters slots message hops report counters' slots' = apply-message t (lent counters slots) message hops ≡ reported report counters' slots'
 
 -- that of a written withdrawal, as crates/message_writers has it: the room at entry and, with a stroke, at exit
 abbrev pub WrittenEnsured : (p L : ℕ) (room : List ℕ) (r : ℕ) (room' : List ℕ) → Type 0
@@ -124,7 +124,7 @@ message-conditions t m message hops =
 
 -- what a written withdrawal looks at: the route as every update, and that the room is of the message's size
 unfoldable pub writing-conditions : (p L : ℕ) (room : List ℕ) → List Condition
-writing-conditions p L room = route-conditions L p ++ (18 when not (eqb (length room) (length (withdrawal p L)))) ∷ []
+writing-conditions p L room = route-conditions p L ++ (18 when not (eqb (length room) (length (withdrawal p L)))) ∷ []
 
 -- ---- Runs
 

@@ -18,7 +18,7 @@ fn mask(length: u32) -> u32
 // The prefix of an address: what the mask of the length leaves of it.
 pub fn prefix_of(address: u32, length: u32) -> u32
     requires { ⌜ length ≤ 32 ⌝ }
-    ensures { λ r. ⌜ r ≡ prefix length address ⌝ }
+    ensures { λ r. ⌜ r ≡ prefix address length ⌝ }
 {
     address & mask(length)
 }

@@ -33,8 +33,8 @@ right-number t acting calls call =
     eqb (acting t call (s .memory) .refusal) (number-given t (s .routes) call)
 
 -- two answers are the same
-unfoldable pub same : Answer → Answer → Bool
-same one other =
+unfoldable pub same-answers : Answer → Answer → Bool
+same-answers one other =
     eqb (one .refusal) (other .refusal)
     && (cond (one .found) (other .found) (not (other .found))
     && (eqb (one .hop) (other .hop) && (eqb (one .length) (other .length) && eqb (one .probes) (other .probes))))
@@ -43,7 +43,7 @@ same one other =
 unfoldable pub right-answer : Settings → Acting → Asking → List Call → (address : ℕ) → Bool
 right-answer t acting asking calls address =
     let s = history-by acting t sevens calls in
-    same (asking t address (s .memory)) (answer-by t (s .routes) address (longest address (s .routes)))
+    same-answers (asking t address (s .memory)) (answer-by t (s .routes) address (longest address (s .routes)))
 
 -- ---- The histories
 
@@ -77,7 +77,7 @@ computing = 0
 
 -- and this, all that is due and all that a lookup computes with
 unfoldable pub showing : ℕ
-unfolding right-number right-answer same add-8 add-16 pair again three four-then-one word-sized all-word-sized number-given needs-place add-number withdraw-number change-number exists sum number crowded beside landings overflows matches marks covered probes-down-to longest longer answer-by ask lookup answer-of refused place-answer route-answer default-answer searched set-bits bit-set vector-of bits-where claims down-from those one-if computing
+unfolding right-number right-answer same-answers add-8 add-16 pair again three four-then-one word-sized all-word-sized number-given needs-place add-number withdraw-number change-number exists sum number crowded beside landings overflows matches marks covered probes-down-to longest longer answer-by ask lookup answer-of refused place-answer route-answer default-answer searched set-bits bit-set vector-of bits-where claims down-from those one-if computing
 showing = 0
 
 -- ---- Ours

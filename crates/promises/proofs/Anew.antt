@@ -9,7 +9,7 @@ use lib.Dec.{eqb, ltb}
 use borrow.Author.Tests.{eq-eqb, ne-eqb, lt-ltb, le-ltb}
 use Rattle.rules.specs.declared.Settings.{Settings}
 use Rattle.rules.specs.Tools.{all, count}
-use Rattle.rules.specs.Table.{prefix, positions, bucket, Memory, update, add}
+use Rattle.rules.specs.Table.{prefix, positions, bucket, Memory, unless-refused, add}
 use Rattle.rules.specs.Ready.{Ready}
 use Rattle.rules.proofs.Members.{both, any-none}
 use Rattle.promises.specs.History.{Route, Call, Clear, Add, Withdraw, Change, word-sized, all-word-sized, act, written, noted, State, next, after, about, without, next-by, after-by}
@@ -34,7 +34,7 @@ kept-same {t} same kept = record {
   range = kept .range;
   slots = record {
     size = kept .slots .size;
-    buckets = λ L p ready weight. kept .slots .buckets L p ready weight ∙ same (in-bucket t weight L p);
+    buckets = λ p L ready weight. kept .slots .buckets p L ready weight ∙ same (in-bucket t weight p L);
     default = λ weight. kept .slots .default weight ∙ same (in-default weight);
   };
   counters = record {
@@ -82,17 +82,17 @@ module _ {t : Settings} {routes : List Route} {m : Memory} (kept : Kept t routes
   of-length : 1 ≤ r .length → Ready t (r .length)
   of-length low = ready (kept .range) low (next-fit .high)
 
-  pub vacancy : 1 ≤ r .length → crowded t some (r .length) (r .prefix) ≡ false
+  pub vacancy : 1 ≤ r .length → crowded t some (r .prefix) (r .length) ≡ false
   unfolding number crowded beside
   vacancy low =
-      let part = rw (eq-eqb (r .length) (r .length) refl, eq-eqb (bucket t (r .prefix)) (bucket t (r .prefix)) refl) at (weight-part (λ q. cond (beside t (r .length) (r .prefix) q) 1 0)) in
-      ne-eqb _ _ (λ (e : number (beside t (r .length) (r .prefix)) some ≡ t .s). omega (arith, part, beside-few (kept .slots) (r .length) (r .prefix) (of-length low)))
+      let part = rw (eq-eqb (r .length) (r .length) refl, eq-eqb (bucket t (r .prefix)) (bucket t (r .prefix)) refl) at (weight-part (λ q. cond (beside t (r .prefix) (r .length) q) 1 0)) in
+      ne-eqb _ _ (λ (e : number (beside t (r .prefix) (r .length)) some ≡ t .s). omega (arith, part, beside-few (kept .slots) (r .prefix) (r .length) (of-length low)))
 
-  room : 1 ≤ r .length → overflows t some (r .length) (r .prefix) ≡ false
+  room : 1 ≤ r .length → overflows t some (r .prefix) (r .length) ≡ false
   unfolding overflows landings
-  room low = any-none (λ j. ltb 15 (landings t some (r .length) j + count j (positions t (r .length) (r .prefix)))) (positions t (r .length) (r .prefix)) (λ j among.
+  room low = any-none (λ j. ltb 15 (landings t some (r .length) j + count j (positions t (r .prefix) (r .length)))) (positions t (r .prefix) (r .length)) (λ j among.
       let part = rw (eq-eqb (r .length) (r .length) refl) at (weight-part (lands t (r .length) j)) in
-      le-ltb 15 (landings t some (r .length) j + count j (positions t (r .length) (r .prefix))) (omega (arith, part, kept .small (r .length) j (of-length low))))
+      le-ltb 15 (landings t some (r .length) j + count j (positions t (r .prefix) (r .length))) (omega (arith, part, kept .small (r .length) j (of-length low))))
 
   -- so the next one, with any valid hop, meets none of the conditions
   pub next-accepted : (hop : ℕ) → hop ≤ 65535 → add-number t some (r .prefix) (r .length) hop ≡ 0
@@ -113,7 +113,7 @@ pub record Anew (t : Settings) (s : State) (more routes : List Route) : Type 0 w
 
 accepts : {t : Settings} {routes : List Route} {m : Memory} → Kept t routes m → (r : Route) → r .prefix < 2 ^ 32
     → add-number t routes (r .prefix) (r .length) (r .hop) ≡ 0 → act t (Add (r .prefix) (r .length) (r .hop)) m .refusal ≡ 0
-unfolding act add update
+unfolding act add unless-refused
 accepts kept r word h = add-by-routes kept (r .prefix) (r .length) (r .hop) word ∙ h
 
 pub sized : (r : Route) → r .prefix < 2 ^ 32 → word-sized (Add (r .prefix) (r .length) (r .hop)) ≡ true

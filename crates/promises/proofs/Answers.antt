@@ -52,7 +52,7 @@ one-of-all test (x ∷ xs) some-there h = (x, both (test x) (all test xs) h .0)
 covered-in-use : (t : Settings) (routes : List Route) (address L : ℕ) → in-range t ≡ true → covered t routes address L ≡ true → in-use routes L ≡ true
 unfolding covered in-use marks
 covered-in-use t routes address L range h =
-    let j = one-of-all (λ j. exists (marks t L j) routes) (positions t L (prefix L address)) (omega (arith, positions-length t L (prefix L address), ranges t range)) h in
+    let j = one-of-all (λ j. exists (marks t L j) routes) (positions t (prefix address L) L) (omega (arith, positions-length t (prefix address L) L, ranges t range)) h in
     let r = exists-one (marks t L (j .0)) routes (j .1) in
     exists-there (λ r. eqb (r .length) L) (r .1) (both (eqb (r .0 .length) L) _ (r .2) .0)
 

@@ -66,7 +66,7 @@ module _ (t : Settings) (call : Call) (counters slots : List ℕ) (r : ℕ) (cou
 
 -- An add of a prefix that is stored gives back and leaves what a change of it does, and every counter stays.
 module _ (t : Settings) (p L hop : ℕ) (counters slots : List ℕ) (r : ℕ) (counters' slots' : List ℕ)
-    (ensured : Ensured t (Add p L hop) counters slots r counters' slots') (stands : there t slots L p ≡ true) where
+    (ensured : Ensured t (Add p L hop) counters slots r counters' slots') (stands : there t slots p L ≡ true) where
   pub stored-changes : Ensured t (Change p L hop) counters slots r counters' slots'
   unfolding act
   stored-changes = sym (demand-1.stored-changes t (lent counters slots) p L hop stands) ∙ ensured

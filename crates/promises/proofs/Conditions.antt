@@ -12,7 +12,7 @@ use lib.ListN.{length}
 use borrow.Author.Tests.{ltb-true, leb-true, leb-false, lt-ltb, le-ltb, eq-eqb, ne-eqb}
 use Rattle.rules.specs.declared.Settings.{Settings}
 use Rattle.rules.specs.Tools.{within, all as every, any, lowest, or-else}
-use Rattle.rules.specs.Table.{list-in-range, in-range, Memory, counters-size, slots-size, slot-number, occupied, mark-at, prefix-at, holds, free, held, vacant, is-some, stored, refuse, sized, from-1, full, passes-15, runs-short, memory-refusal, add-refusal, withdraw-refusal, change-refusal, update, clear, add, withdraw, change, fourfold, list-refusal}
+use Rattle.rules.specs.Table.{list-in-range, in-range, Memory, counters-size, slots-size, slot-number, occupied, mark-at, prefix-at, holds, free, held, vacant, is-some, stored, refuse, sized, from-1, full, passes-15, runs-short, memory-refusal, add-refusal, withdraw-refusal, change-refusal, unless-refused, clear, add, withdraw, change, fourfold, list-refusal}
 use Rattle.rules.proofs.Members.{both}
 use Rattle.rules.proofs.Prefixes.{loose-low}
 use Rattle.rules.proofs.Refusals.{memory-order, add-order, withdraw-order, change-order}
@@ -129,15 +129,15 @@ not-some-below test (suc n) = go (some-below (λ s. not (test s)) n) (test n) (n
     go false true e = rw (← e)
     go false false e = rw (← e)
 
-pub stored-there : (t : Settings) (slots : List ℕ) (L p : ℕ) → stored t slots L p ≡ there t slots L p
+pub stored-there : (t : Settings) (slots : List ℕ) (p L : ℕ) → stored t slots p L ≡ there t slots p L
 unfolding stored there held holds
-stored-there t slots L p = rw (is-some-below (λ s. occupied (mark-at slots (slot-number t L p s)) && eqb (prefix-at slots (slot-number t L p s)) p) (t .s))
+stored-there t slots p L = rw (is-some-below (λ s. occupied (mark-at slots (slot-number t p L s)) && eqb (prefix-at slots (slot-number t p L s)) p) (t .s))
 
-full-left : (t : Settings) (slots : List ℕ) (L p : ℕ) → full t slots L p ≡ no-slot-left t slots L p
+full-left : (t : Settings) (slots : List ℕ) (p L : ℕ) → full t slots p L ≡ no-slot-left t slots p L
 unfolding full no-slot-left vacant free
-full-left t slots L p =
-    ap not (is-some-below (λ s. not (occupied (mark-at slots (slot-number t L p s)))) (t .s))
-    ∙ not-some-below (λ s. occupied (mark-at slots (slot-number t L p s))) (t .s)
+full-left t slots p L =
+    ap not (is-some-below (λ s. not (occupied (mark-at slots (slot-number t p L s)))) (t .s))
+    ∙ not-some-below (λ s. occupied (mark-at slots (slot-number t p L s))) (t .s)
 
 from-1-up : (L : ℕ) (bad : Bool) → from-1 L bad ≡ ltb 0 L && bad
 unfolding from-1
@@ -184,26 +184,26 @@ add-first t m p L hop =
     ∙ rw (
       range-outside t,
       sizes-differ t m,
-      loose-low L p,
-      stored-there t (m .slots) L p,
-      full-left t (m .slots) L p,
-      from-1-up L (not (there t (m .slots) L p)),
+      loose-low p L,
+      stored-there t (m .slots) p L,
+      full-left t (m .slots) p L,
+      from-1-up L (not (there t (m .slots) p L)),
     )
 
 withdraw-first : (t : Settings) (m : Memory) (p L : ℕ) → withdraw-refusal t m p L ≡ first-met (conditions t (Withdraw p L) m)
 unfolding first-met conditions memory-conditions route-conditions runs-short
 withdraw-first t m p L =
     withdraw-order t m p L ∙ memory-order t m _
-    ∙ rw (range-outside t, sizes-differ t m, loose-low L p, stored-there t (m .slots) L p, from-1-up)
+    ∙ rw (range-outside t, sizes-differ t m, loose-low p L, stored-there t (m .slots) p L, from-1-up)
 
 change-first : (t : Settings) (m : Memory) (p L hop : ℕ) → change-refusal t m p L hop ≡ first-met (conditions t (Change p L hop) m)
 unfolding first-met conditions memory-conditions route-conditions
 change-first t m p L hop =
     change-order t m p L hop ∙ memory-order t m _
-    ∙ rw (range-outside t, sizes-differ t m, loose-low L p, stored-there t (m .slots) L p)
+    ∙ rw (range-outside t, sizes-differ t m, loose-low p L, stored-there t (m .slots) p L)
 
 pub call-first : (t : Settings) (call : Call) (m : Memory) → act t call m .refusal ≡ first-met (conditions t call m)
-unfolding act clear add withdraw change update conditions
+unfolding act clear add withdraw change unless-refused conditions
 call-first t Clear m = memory-first t m
 call-first t (Add p L hop) m = add-first t m p L hop
 call-first t (Withdraw p L) m = withdraw-first t m p L

@@ -24,7 +24,7 @@ use Rattle.promises.proofs.Paper.{Paper, worth, worth-nothing, about-tr
 
 -- how often a route of length L lands on position j
 abbrev pub lands : Settings → (L j : ℕ) → Route → ℕ
-lands t L j r = cond (eqb (r .length) L) (count j (positions t L (r .prefix))) 0
+lands t L j r = cond (eqb (r .length) L) (count j (positions t (r .prefix) L)) 0
 
 -- each counter of a length is what the routes of that length land on it
 pub record CountersKept (t : Settings) (routes : List Route) (counters : List ℕ) : Type 0 where
@@ -37,14 +37,14 @@ place-fits t size L j e ready h = rw e (counter-fits t L (counter-place t L j) r
 
 -- what p at length L hits of length M's position j is what its route lands there
 hits-lands : (t : Settings) (L M p j : ℕ) → Ready t L → Ready t M → j < 2 ^ filter-bits t M
-    → count (counter-place t M j) (counter-places t L p) ≡ cond (eqb L M) (count j (positions t M p)) 0
+    → count (counter-place t M j) (counter-places t p L) ≡ cond (eqb L M) (count j (positions t p M)) 0
 unfolding hits
 hits-lands t L M p j of-l of-m h = by-cases (eqb L M) same other
   where
-    same : eqb L M ≡ true → count (counter-place t M j) (counter-places t L p) ≡ cond (eqb L M) (count j (positions t M p)) 0
-    same e = rw (e, eqb-true L M e) (hits-at t M p j)
+    same : eqb L M ≡ true → count (counter-place t M j) (counter-places t p L) ≡ cond (eqb L M) (count j (positions t p M)) 0
+    same e = rw (e, eqb-true L M e) (hits-at t p M j)
 
-    other : eqb L M ≡ false → count (counter-place t M j) (counter-places t L p) ≡ cond (eqb L M) (count j (positions t M p)) 0
+    other : eqb L M ≡ false → count (counter-place t M j) (counter-places t p L) ≡ cond (eqb L M) (count j (positions t p M)) 0
     other e = rw e (hits-other t L M p (counter-place t M j) of-l of-m (place-inside t M j h) (eqb-false L M e))
 
 -- ---- What keeps the counters
@@ -60,23 +60,23 @@ kept-none t n size = record {
 module _ {t : Settings} {routes after : List Route} {counters : List ℕ} (p L : ℕ) (kept : CountersKept t routes counters) where
   -- an add raises its positions
   pub kept-added : (hop : ℕ) → Ready t L → Paper p L none (some hop) routes after
-      → CountersKept t after (step-each (λ n. n + 1) counters (counter-places t L p))
+      → CountersKept t after (step-each (λ n. n + 1) counters (counter-places t p L))
   unfolding landings worth
   kept-added hop ready paper = record {
-    size = step-each-length (λ n. n + 1) counters (counter-places t L p) ∙ kept .size;
+    size = step-each-length (λ n. n + 1) counters (counter-places t p L) ∙ kept .size;
     at = λ M j of-m h.
-        step-up counters (counter-places t L p) (counter-place t M j) (place-fits t (length counters) M j (kept .size) of-m h)
+        step-up counters (counter-places t p L) (counter-place t M j) (place-fits t (length counters) M j (kept .size) of-m h)
         ∙ rw (kept .at M j of-m h, hits-lands t L M p j ready of-m h) (omega (arith, paper (lands t M j)));
   }
 
   -- a withdrawal lowers its positions
   pub kept-withdrawn : (hop : ℕ) → Ready t L → Paper p L (some hop) none routes after
-      → CountersKept t after (step-each (λ n. n - 1) counters (counter-places t L p))
+      → CountersKept t after (step-each (λ n. n - 1) counters (counter-places t p L))
   unfolding landings worth
   kept-withdrawn hop ready paper = record {
-    size = step-each-length (λ n. n - 1) counters (counter-places t L p) ∙ kept .size;
+    size = step-each-length (λ n. n - 1) counters (counter-places t p L) ∙ kept .size;
     at = λ M j of-m h.
-        step-down counters (counter-places t L p) (counter-place t M j) (place-fits t (length counters) M j (kept .size) of-m h)
+        step-down counters (counter-places t p L) (counter-place t M j) (place-fits t (length counters) M j (kept .size) of-m h)
         ∙ rw (kept .at M j of-m h, hits-lands t L M p j ready of-m h) (omega (arith, paper (lands t M j)));
   }
 
@@ -106,37 +106,37 @@ landed t (r ∷ routes) L j = go (eqb (r .length) L) (landed t routes L j)
     other (suc n) m = lt-ltb 0 (suc n + m) (omega arith) ∙ rw (lt-ltb 0 (suc n) (omega arith))
 
     go : (b : Bool) → ltb 0 (landings t routes L j) ≡ exists (marks t L j) routes
-        → ltb 0 (cond b (count j (positions t L (r .prefix))) 0 + landings t routes L j)
-        ≡ b && any (eqb j) (positions t L (r .prefix)) || exists (marks t L j) routes
-    go true e = other (count j (positions t L (r .prefix))) (landings t routes L j) ∙ rw (any-count, e)
+        → ltb 0 (cond b (count j (positions t (r .prefix) L)) 0 + landings t routes L j)
+        ≡ b && any (eqb j) (positions t (r .prefix) L) || exists (marks t L j) routes
+    go true e = other (count j (positions t (r .prefix) L)) (landings t routes L j) ∙ rw (any-count, e)
     go false e = other 0 (landings t routes L j) ∙ e
 
 module _ (t : Settings) (routes : List Route) (counters : List ℕ) (kept : CountersKept t routes counters) (L : ℕ) (ready : Ready t L) where
   -- the filter claims exactly the prefixes whose positions stored routes of that length cover
-  pub claims-covered : (address : ℕ) → claims t counters L (prefix L address) ≡ covered t routes address L
+  pub claims-covered : (address : ℕ) → claims t counters (prefix address L) L ≡ covered t routes address L
   unfolding covered
   claims-covered address =
-      claims-at t counters L (prefix L address)
-      ∙ all-agree (λ j. ltb 0 (getD counters (counter-place t L j) 0)) (λ j. exists (marks t L j) routes) (positions t L (prefix L address)) (λ j m.
-      ap (λ (n : ℕ). ltb 0 n) (kept .at L j ready (positions-lt t L (prefix L address) ready j m)) ∙ landed t routes L j)
+      claims-at t counters (prefix address L) L
+      ∙ all-agree (λ j. ltb 0 (getD counters (counter-place t L j) 0)) (λ j. exists (marks t L j) routes) (positions t (prefix address L) L) (λ j m.
+      ap (λ (n : ℕ). ltb 0 n) (kept .at L j ready (positions-lt t (prefix address L) L ready j m)) ∙ landed t routes L j)
 
   -- a counter would pass 15 exactly if the landings would
-  pub passes-overflows : (p : ℕ) → passes-15 t counters L p ≡ overflows t routes L p
+  pub passes-overflows : (p : ℕ) → passes-15 t counters p L ≡ overflows t routes p L
   unfolding overflows
   passes-overflows p =
-      passes-15-at t counters L p
-      ∙ any-agree (λ j. ltb 15 (getD counters (counter-place t L j) 0 + count j (positions t L p))) (λ j. ltb 15 (landings t routes L j + count j (positions t L p))) (positions t L p) (λ j m.
-      ap (λ (n : ℕ). ltb 15 (n + count j (positions t L p))) (kept .at L j ready (positions-lt t L p ready j m)))
+      passes-15-at t counters p L
+      ∙ any-agree (λ j. ltb 15 (getD counters (counter-place t L j) 0 + count j (positions t p L))) (λ j. ltb 15 (landings t routes L j + count j (positions t p L))) (positions t p L) (λ j m.
+      ap (λ (n : ℕ). ltb 15 (n + count j (positions t p L))) (kept .at L j ready (positions-lt t p L ready j m)))
 
   -- no counter runs short of a stored route
-  pub never-short : (p : ℕ) {r : Route} → List·Memᴰ r routes → about p L r ≡ true → runs-short t counters L p ≡ false
+  pub never-short : (p : ℕ) {r : Route} → List·Memᴰ r routes → about p L r ≡ true → runs-short t counters p L ≡ false
   unfolding landings
   never-short p {r} member own =
       let is = about-true p L r own in
-      runs-short-at t counters L p
-      ∙ any-none (λ j. ltb (getD counters (counter-place t L j) 0) (count j (positions t L p))) (positions t L p) (λ j m.
-      le-ltb (getD counters (counter-place t L j) 0) (count j (positions t L p))
-      (rw (kept .at L j ready (positions-lt t L p ready j m)) (rw (is .0, is .1, eq-eqb L L refl) at (weight-within (lands t L j) member))))
+      runs-short-at t counters p L
+      ∙ any-none (λ j. ltb (getD counters (counter-place t L j) 0) (count j (positions t p L))) (positions t p L) (λ j m.
+      le-ltb (getD counters (counter-place t L j) 0) (count j (positions t p L))
+      (rw (kept .at L j ready (positions-lt t p L ready j m)) (rw (is .0, is .1, eq-eqb L L refl) at (weight-within (lands t L j) member))))
 
 -- ---- What the counters of a length sum to
 
@@ -149,10 +149,10 @@ landings-sum t (r ∷ routes) L ready =
     ∙ ap₂ (λ (x y : ℕ). x + y) (own (eqb (r .length) L)) (landings-sum t routes L ready)
     ∙ sym (mul-add (t .k) (cond (eqb (r .length) L) 1 0) (number (λ r. eqb (r .length) L) routes))
   where
-    own : (b : Bool) → below (λ j. cond b (count j (positions t L (r .prefix))) 0) (2 ^ filter-bits t L) ≡ t .k * cond b 1 0
+    own : (b : Bool) → below (λ j. cond b (count j (positions t (r .prefix) L)) 0) (2 ^ filter-bits t L) ≡ t .k * cond b 1 0
     own true =
-        below-count (positions t L (r .prefix)) (2 ^ filter-bits t L) (positions-lt t L (r .prefix) ready)
-        ∙ positions-length t L (r .prefix) ∙ sym (mul-one (t .k))
+        below-count (positions t (r .prefix) L) (2 ^ filter-bits t L) (positions-lt t (r .prefix) L ready)
+        ∙ positions-length t (r .prefix) L ∙ sym (mul-one (t .k))
     own false = below-zero (2 ^ filter-bits t L) ∙ sym (mul-zero (t .k))
 
 -- K for each route of that length

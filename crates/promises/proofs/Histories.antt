@@ -8,7 +8,7 @@ use lib.ListN.{length, replicate, length-replicate, getD-replicate}
 use lib.Dec.{eqb}
 use borrow.Author.Tests.{eqb-true, ltb-true}
 use Rattle.rules.specs.declared.Settings.{Settings}
-use Rattle.rules.specs.Table.{Memory, slots-size, slot-number, mark-word, default-word, mark-at, default-mark, sized, memory-refusal, update, zeroed, clear, add, withdraw, change}
+use Rattle.rules.specs.Table.{Memory, slots-size, slot-number, mark-word, default-word, mark-at, default-mark, sized, memory-refusal, unless-refused, zeroed, clear, add, withdraw, change}
 use Rattle.rules.proofs.Members.{both}
 use Rattle.rules.proofs.Refusals.{memory-passed}
 use Rattle.rules.proofs.Placing.{words-fit, default-fits}
@@ -31,9 +31,9 @@ slots-none : (t : Settings) (n : ℕ) → n ≡ slots-size t → SlotsKept t [] 
 unfolding sum bucket-weight slot-weight mark-at default-mark
 slots-none t n size = record {
   size = length-replicate n 0 ∙ size;
-  buckets = λ L p ready weight. none-below-weighs _ (t .s) (λ s l.
-      let before = words-fit t L p s ready l .mark in
-      rw (getD-replicate {A = ℕ} n (mark-word (slot-number t L p s)) 0 0 (omega (arith, default-fits t))) (weigh-zero weight _));
+  buckets = λ p L ready weight. none-below-weighs _ (t .s) (λ s l.
+      let before = words-fit t p L s ready l .mark in
+      rw (getD-replicate {A = ℕ} n (mark-word (slot-number t p L s)) 0 0 (omega (arith, default-fits t))) (weigh-zero weight _));
   default = λ weight. rw (getD-replicate {A = ℕ} n (default-word t) 0 0 (rw size (default-fits t))) (weigh-zero weight 0);
 }
 
@@ -60,7 +60,7 @@ kept-or refusal later left kept accepted = by-cases (eqb refusal 0)
 
 pub kept-next : {t : Settings} {s : State} → Kept t (s .routes) (s .memory) → (call : Call) → word-sized call ≡ true
     → Kept t (next t s call .routes) (next t s call .memory)
-unfolding next-by act noted written word-sized clear add withdraw change update
+unfolding next-by act noted written word-sized clear add withdraw change unless-refused
 kept-next {t} {s} kept Clear sized = kept-or (memory-refusal t (s .memory) 0) [] (zeroed (s .memory)) kept (cleared t (s .memory))
 kept-next {t} {s} kept (Add p L hop) sized =
     let word = ltb-true p (2 ^ 32) sized in
@@ -87,7 +87,7 @@ kept-after kept (call ∷ calls) sized =
     kept-after (kept-next kept call (parts .0)) calls (parts .1)
 
 pub kept-clear : (t : Settings) (before : Memory) → act t Clear before .refusal ≡ 0 → Kept t [] (act t Clear before .memory)
-unfolding act clear update
+unfolding act clear unless-refused
 kept-clear t before accepted = rw accepted (cleared t before accepted)
 
 pub kept-history : (t : Settings) (before : Memory) (calls : List Call) → act t Clear before .refusal ≡ 0 → all-word-sized calls ≡ true

@@ -19,7 +19,7 @@ use Rattle.promises.proofs.Counters.{CountersKept}
 -- a route as the checks let it in
 unfoldable pub fit : Route → Bool
 fit r =
-    leb (r .length) 32 && (eqb (prefix (r .length) (r .prefix)) (r .prefix) && (leb (r .hop) 65535 && ltb (r .prefix) (2 ^ 32)))
+    leb (r .length) 32 && (eqb (prefix (r .prefix) (r .length)) (r .prefix) && (leb (r .hop) 65535 && ltb (r .prefix) (2 ^ 32)))
 
 -- memory and stored routes belong together
 pub record Kept (t : Settings) (routes : List Route) (m : Memory) : Type 0 where
@@ -33,7 +33,7 @@ pub record Kept (t : Settings) (routes : List Route) (m : Memory) : Type 0 where
 -- what fit says
 pub record Fit (r : Route) : Type 0 where
   pub high : r .length ≤ 32
-  pub tight : prefix (r .length) (r .prefix) ≡ r .prefix
+  pub tight : prefix (r .prefix) (r .length) ≡ r .prefix
   pub hop-high : r .hop ≤ 65535
   pub word : r .prefix < 2 ^ 32
 
@@ -41,7 +41,7 @@ pub fit-says : (r : Route) → fit r ≡ true → Fit r
 unfolding fit
 fit-says r h =
     let one = both (leb (r .length) 32) _ h in
-    let two = both (eqb (prefix (r .length) (r .prefix)) (r .prefix)) _ (one .1) in
+    let two = both (eqb (prefix (r .prefix) (r .length)) (r .prefix)) _ (one .1) in
     let three = both (leb (r .hop) 65535) _ (two .1) in
     record {
       high = leb-true _ _ (one .0);

@@ -45,7 +45,7 @@ bits-agree test other (suc n) same = rw (same (suc n) (omega arith) (le-refl (su
 module _ (t : Settings) (slots : List ℕ) (address : ℕ) (claimed : ℕ → Bool) where
   -- the bucket of the address at length L holds nothing of it
   abbrev Misses : ℕ → Type 0
-  Misses L = held t slots L (prefix L address) ≡ none
+  Misses L = held t slots (prefix address L) L ≡ none
 
   -- where no length holds it, the search finds nothing
   search-misses : (n k : ℕ) → ((L : ℕ) → 1 ≤ L → L ≤ n → Misses L) → search t slots address k (those claimed (down-from n)) ≡ Absent
@@ -59,10 +59,10 @@ module _ (t : Settings) (slots : List ℕ) (address : ℕ) (claimed : ℕ → Bo
       go false rest = rest k
 
   -- where the longest that is held is claimed, the search stops there
-  search-hits : (n k L s : ℕ) → 1 ≤ L → L ≤ n → held t slots L (prefix L address) ≡ some s → claimed L ≡ true
+  search-hits : (n k L s : ℕ) → 1 ≤ L → L ≤ n → held t slots (prefix address L) L ≡ some s → claimed L ≡ true
       → ((M : ℕ) → L < M → M ≤ n → Misses M)
       → search t slots address k (those claimed (down-from n))
-      ≡ At (slot-number t L (prefix L address) s) L (k + length (those (λ M. leb L M && claimed M) (down-from n)))
+      ≡ At (slot-number t (prefix address L) L s) L (k + length (those (λ M. leb L M && claimed M) (down-from n)))
   unfolding search those down-from
   search-hits zero k L s lo hi holds claims above = absurd (omega arith)
   search-hits (suc n) k L s lo hi holds claims above = go (le-suc-iff .0 hi) (λ j l. search-hits n j L s lo l holds claims (λ M a b. above M a (le-step b)))
@@ -71,17 +71,17 @@ module _ (t : Settings) (slots : List ℕ) (address : ℕ) (claimed : ℕ → Bo
       tail = length (those (λ M. leb L M && claimed M) (down-from n))
 
       deeper : (b : Bool) → claimed (suc n) ≡ b → L ≤ n
-          → ((j : ℕ) → search t slots address j (those claimed (down-from n)) ≡ At (slot-number t L (prefix L address) s) L (j + tail))
+          → ((j : ℕ) → search t slots address j (those claimed (down-from n)) ≡ At (slot-number t (prefix address L) L s) L (j + tail))
           → search t slots address k (cond b (suc n ∷ those claimed (down-from n)) (those claimed (down-from n)))
-          ≡ At (slot-number t L (prefix L address) s) L (k + length (cond (leb L (suc n) && b) (suc n ∷ those (λ M. leb L M && claimed M) (down-from n)) (those (λ M. leb L M && claimed M) (down-from n))))
+          ≡ At (slot-number t (prefix address L) L s) L (k + length (cond (leb L (suc n) && b) (suc n ∷ those (λ M. leb L M && claimed M) (down-from n)) (those (λ M. leb L M && claimed M) (down-from n))))
       deeper true e l rest =
-          rw (above (suc n) (omega arith) (le-refl (suc n)), le-leb L (suc n) hi) (rest (k + 1) ∙ ap (At (slot-number t L (prefix L address) s) L) (omega arith))
+          rw (above (suc n) (omega arith) (le-refl (suc n)), le-leb L (suc n) hi) (rest (k + 1) ∙ ap (At (slot-number t (prefix address L) L s) L) (omega arith))
       deeper false e l rest = rw (le-leb L (suc n) hi) (rest k)
 
       go : (L ≤ n) ⊎ (L ≡ suc n)
-          → ((j : ℕ) → L ≤ n → search t slots address j (those claimed (down-from n)) ≡ At (slot-number t L (prefix L address) s) L (j + tail))
+          → ((j : ℕ) → L ≤ n → search t slots address j (those claimed (down-from n)) ≡ At (slot-number t (prefix address L) L s) L (j + tail))
           → search t slots address k (cond (claimed (suc n)) (suc n ∷ those claimed (down-from n)) (those claimed (down-from n)))
-          ≡ At (slot-number t L (prefix L address) s) L (k + length (cond (leb L (suc n) && claimed (suc n)) (suc n ∷ those (λ M. leb L M && claimed M) (down-from n)) (those (λ M. leb L M && claimed M) (down-from n))))
+          ≡ At (slot-number t (prefix address L) L s) L (k + length (cond (leb L (suc n) && claimed (suc n)) (suc n ∷ those (λ M. leb L M && claimed M) (down-from n)) (those (λ M. leb L M && claimed M) (down-from n))))
       go (inl l) rest = deeper (claimed (suc n)) refl l (λ j. rest j l)
       go (inr e) rest =
           let none-after = those-none (λ M. leb L M && claimed M) n (λ M low high. rw (lt-leb L M (omega arith))) in
@@ -104,26 +104,26 @@ module _ {t : Settings} {routes : List Route} {m : Memory} (kept : Kept t routes
       sym own-q ∙ own-r
 
   -- a route of length 0 matches every address
-  pub default-prefix : (r : Route) → List·Memᴰ r routes → r .length ≡ 0 → prefix (r .length) address ≡ r .prefix
+  pub default-prefix : (r : Route) → List·Memᴰ r routes → r .length ≡ 0 → prefix address (r .length) ≡ r .prefix
   default-prefix r there e =
       let its = fits kept r there in
       rw e (prefix-zero address word ∙ sym (prefix-zero (r .prefix) (its .word)) ∙ rw e at (its .tight))
 
   -- what a length holds of the address matches it
-  held-matches : (L s : ℕ) → Ready t L → held t (m .slots) L (prefix L address) ≡ some s
+  held-matches : (L s : ℕ) → Ready t L → held t (m .slots) (prefix address L) L ≡ some s
       → (r : Route) × List·Memᴰ r routes × (r .length ≡ L) × (matches address r ≡ true)
   unfolding matches
   held-matches L s of-l h =
-      let at = held-stored (kept .slots) L (prefix L address) s of-l h .1 in
+      let at = held-stored (kept .slots) (prefix address L) L s of-l h .1 in
       let r = at .holder in
-      (r, at .stored, at .its-length, eq-eqb _ _ (ap (λ (n : ℕ). prefix n address) (at .its-length) ∙ sym (at .its-prefix)))
+      (r, at .stored, at .its-length, eq-eqb _ _ (ap (λ (n : ℕ). prefix address n) (at .its-length) ∙ sym (at .its-prefix)))
 
   -- so where each match is at most n long, no length above n holds the address
   misses : (n : ℕ) → ((r : Route) → List·Memᴰ r routes → matches address r ≡ true → r .length ≤ n)
-      → (L : ℕ) → n < L → L ≤ 32 → held t (m .slots) L (prefix L address) ≡ none
-  misses n short L above high = go (held t (m .slots) L (prefix L address)) refl
+      → (L : ℕ) → n < L → L ≤ 32 → held t (m .slots) (prefix address L) L ≡ none
+  misses n short L above high = go (held t (m .slots) (prefix address L) L) refl
     where
-      go : (o : Option ℕ) → held t (m .slots) L (prefix L address) ≡ o → o ≡ none
+      go : (o : Option ℕ) → held t (m .slots) (prefix address L) L ≡ o → o ≡ none
       go none h = refl
       go (some s) h =
           let r = held-matches L s (of-length L (omega arith) high) h in
@@ -134,15 +134,15 @@ module _ {t : Settings} {routes : List Route} {m : Memory} (kept : Kept t routes
   match-covered : (r : Route) → List·Memᴰ r routes → matches address r ≡ true → covered t routes address (r .length) ≡ true
   unfolding covered marks matches
   match-covered r there h =
-      rw (eqb-true (prefix (r .length) address) (r .prefix) h)
-      (all-made (λ j. exists (marks t (r .length) j) routes) (positions t (r .length) (r .prefix)) (λ j among.
+      rw (eqb-true (prefix address (r .length)) (r .prefix) h)
+      (all-made (λ j. exists (marks t (r .length) j) routes) (positions t (r .prefix) (r .length)) (λ j among.
       exists-there (marks t (r .length) j) there
-      (rw (eq-eqb (r .length) (r .length) refl) (any-made (eqb j) (positions t (r .length) (r .prefix)) j among (eq-eqb j j refl)))))
+      (rw (eq-eqb (r .length) (r .length) refl) (any-made (eqb j) (positions t (r .prefix) (r .length)) j among (eq-eqb j j refl)))))
 
   -- the lengths that a lookup goes down
   vector-covered : vector-of t (m .counters) address ≡ bits-where (covered t routes address) 32
   unfolding vector-of
-  vector-covered = bits-agree (λ L. claims t (m .counters) L (prefix L address)) (covered t routes address) 32
+  vector-covered = bits-agree (λ L. claims t (m .counters) (prefix address L) L) (covered t routes address) 32
       (λ L lo hi. claims-covered t routes (m .counters) (kept .counters) L (of-length L lo hi) address)
 
   -- where the default or nothing answers, the probes go down to 1
@@ -173,25 +173,25 @@ module _ {t : Settings} {routes : List Route} {m : Memory} (kept : Kept t routes
       let q = default-stored (kept .slots) taken in
       let hop : hop-of (default-mark t (m .slots)) ≡ r .hop =
       ap hop-of (sym (q .3)) ∙ hop-marked (q .0 .hop)
-      ∙ same-hop (best .stored) (q .1) (sym (default-prefix (q .0) (q .1) (q .2)) ∙ ap (λ (n : ℕ). prefix n address) (q .2 ∙ sym e) ∙ default-prefix r (best .stored) e) (q .2 ∙ sym e) in
+      ∙ same-hop (best .stored) (q .1) (sym (default-prefix (q .0) (q .1) (q .2)) ∙ ap (λ (n : ℕ). prefix address n) (q .2 ∙ sym e) ∙ default-prefix r (best .stored) e) (q .2 ∙ sym e) in
       rw (taken, hop))
       (λ free. absurd (default-free (kept .slots) free r (best .stored) e)))
 
   by-slot : (r : Route) → Longest address routes r → 1 ≤ r .length → answer ≡ answer-by t routes address (some r)
   unfolding place-answer route-answer answer-by probes-down-to matches
-  by-slot r best low = go (held t (m .slots) (r .length) (prefix (r .length) address)) refl
+  by-slot r best low = go (held t (m .slots) (prefix address (r .length)) (r .length)) refl
     where
       of-l : Ready t (r .length)
       of-l = of-length (r .length) low (fits kept r (best .stored) .high)
 
-      at-prefix : prefix (r .length) address ≡ r .prefix
+      at-prefix : prefix address (r .length) ≡ r .prefix
       at-prefix = eqb-true _ _ (best .matching)
 
-      go : (o : Option ℕ) → held t (m .slots) (r .length) (prefix (r .length) address) ≡ o → answer ≡ answer-by t routes address (some r)
+      go : (o : Option ℕ) → held t (m .slots) (prefix address (r .length)) (r .length) ≡ o → answer ≡ answer-by t routes address (some r)
       go none h = absurd (stored-held (kept .slots) r (best .stored) of-l (rw at-prefix at h))
       go (some s) h =
-          let at = held-stored (kept .slots) (r .length) (prefix (r .length) address) s of-l h .1 in
-          let hop : hop-of (mark-at (m .slots) (slot-number t (r .length) (prefix (r .length) address) s)) ≡ r .hop =
+          let at = held-stored (kept .slots) (prefix address (r .length)) (r .length) s of-l h .1 in
+          let hop : hop-of (mark-at (m .slots) (slot-number t (prefix address (r .length)) (r .length) s)) ≡ r .hop =
           ap hop-of (sym (at .its-mark)) ∙ hop-marked (at .holder .hop) ∙ same-hop (best .stored) (at .stored) (at .its-prefix ∙ at-prefix) (at .its-length) in
           rw (
             search-hits t (m .slots) address (covered t routes address) 32 0 (r .length) s low (of-l .high) h

@@ -21,29 +21,29 @@ use Rattle.promises.proofs.Sums.{by-cases}
 -- a length and a prefix that passed 3 and 4
 pub record Checked (p L : ℕ) : Type 0 where
   pub high : L ≤ 32
-  pub tight : prefix L p ≡ p
+  pub tight : prefix p L ≡ p
 
-checked : (p L after : ℕ) → refuse (ltb 32 L) 3 (refuse (loose L p) 4 after) ≡ 0 → Checked p L × (after ≡ 0)
+checked : (p L after : ℕ) → refuse (ltb 32 L) 3 (refuse (loose p L) 4 after) ≡ 0 → Checked p L × (after ≡ 0)
 checked p L after e =
     let three = passed (ltb 32 L) 2 _ e in
-    let four = passed (loose L p) 3 _ (three .1) in
-    (record { high = ltb-false 32 L (three .0); tight = loose-false L p .0 (four .0) }, four .1)
+    let four = passed (loose p L) 3 _ (three .1) in
+    (record { high = ltb-false 32 L (three .0); tight = loose-false p L .0 (four .0) }, four .1)
 
 -- an accepted add: only a route that is not stored yet asks for room
 pub record Addable (t : Settings) (routes : List Route) (p L hop : ℕ) : Type 0 where
   pub valid : Checked p L
   pub hop-high : hop ≤ 65535
-  pub vacancy : exists (about p L) routes ≡ false → 1 ≤ L → crowded t routes L p ≡ false
-  pub room : exists (about p L) routes ≡ false → 1 ≤ L → overflows t routes L p ≡ false
+  pub vacancy : exists (about p L) routes ≡ false → 1 ≤ L → crowded t routes p L ≡ false
+  pub room : exists (about p L) routes ≡ false → 1 ≤ L → overflows t routes p L ≡ false
 
-module _ (routes : List Route) (L p : ℕ) (bad : Bool) where
+module _ (routes : List Route) (p L : ℕ) (bad : Bool) where
   -- what does not stop an add does not hold of a route that needs a place,
-  unstopped : needs-place routes L p && bad ≡ false → exists (about p L) routes ≡ false → 1 ≤ L → bad ≡ false
+  unstopped : needs-place routes p L && bad ≡ false → exists (about p L) routes ≡ false → 1 ≤ L → bad ≡ false
   unfolding needs-place from-1
   unstopped e absent low = rw (ne-eqb L 0 (omega arith), absent) at e
 
   -- and the other way
-  never-stops : (exists (about p L) routes ≡ false → 1 ≤ L → bad ≡ false) → needs-place routes L p && bad ≡ false
+  never-stops : (exists (about p L) routes ≡ false → 1 ≤ L → bad ≡ false) → needs-place routes p L && bad ≡ false
   unfolding needs-place from-1
   never-stops h = go L h
     where
@@ -56,13 +56,13 @@ unfolding add-number
 addable t routes p L hop e =
     let four = checked p L _ e in
     let five = passed (ltb 65535 hop) 4 _ (four .1) in
-    let eight = passed (needs-place routes L p && crowded t routes L p) 7 _ (five .1) in
-    let nine = passed (needs-place routes L p && overflows t routes L p) 8 _ (eight .1) in
+    let eight = passed (needs-place routes p L && crowded t routes p L) 7 _ (five .1) in
+    let nine = passed (needs-place routes p L && overflows t routes p L) 8 _ (eight .1) in
     record {
       valid = four .0;
       hop-high = ltb-false 65535 hop (five .0);
-      vacancy = unstopped routes L p _ (eight .0);
-      room = unstopped routes L p _ (nine .0);
+      vacancy = unstopped routes p L _ (eight .0);
+      room = unstopped routes p L _ (nine .0);
     }
 
 -- an add that has passed all this is accepted
@@ -71,10 +71,10 @@ unfolding add-number refuse
 add-accepted {t} {routes} {p} {L} {hop} ok =
     rw (
       le-ltb 32 L (ok .valid .high),
-      loose-false L p .1 (ok .valid .tight),
+      loose-false p L .1 (ok .valid .tight),
       le-ltb 65535 hop (ok .hop-high),
-      never-stops routes L p (crowded t routes L p) (ok .vacancy),
-      never-stops routes L p (overflows t routes L p) (ok .room),
+      never-stops routes p L (crowded t routes p L) (ok .vacancy),
+      never-stops routes p L (overflows t routes p L) (ok .room),
     )
 
 -- an accepted withdrawal is of a stored route
@@ -100,8 +100,8 @@ unfolding refuse
 not-this k true number after here later = here
 not-this k false number after here later = later
 
-not-before-5 : (k p L after : ℕ) → 5 ≤ k → after ≢ k → refuse (ltb 32 L) 3 (refuse (loose L p) 4 after) ≢ k
-not-before-5 k p L after high later = not-this k (ltb 32 L) 3 _ (omega arith) (not-this k (loose L p) 4 after (omega arith) later)
+not-before-5 : (k p L after : ℕ) → 5 ≤ k → after ≢ k → refuse (ltb 32 L) 3 (refuse (loose p L) 4 after) ≢ k
+not-before-5 k p L after high later = not-this k (ltb 32 L) 3 _ (omega arith) (not-this k (loose p L) 4 after (omega arith) later)
 
 stored-only : (routes : List Route) (p L : ℕ) → refuse (not (exists (about p L) routes)) 7 0 ≢ 10
 stored-only routes p L = not-this 10 (not (exists (about p L) routes)) 7 0 (omega arith) (omega arith)
@@ -112,16 +112,16 @@ number-not-10 t routes Clear = omega arith
 number-not-10 t routes (Add p L hop) =
     not-before-5 10 p L _ (lit≤ tt)
     (not-this 10 (ltb 65535 hop) 5 _ (omega arith)
-    (not-this 10 (needs-place routes L p && crowded t routes L p) 8 _ (omega arith)
-    (not-this 10 (needs-place routes L p && overflows t routes L p) 9 0 (omega arith) (omega arith))))
+    (not-this 10 (needs-place routes p L && crowded t routes p L) 8 _ (omega arith)
+    (not-this 10 (needs-place routes p L && overflows t routes p L) 9 0 (omega arith) (omega arith))))
 number-not-10 t routes (Withdraw p L) = not-before-5 10 p L _ (lit≤ tt) (stored-only routes p L)
 number-not-10 t routes (Change p L hop) = not-before-5 10 p L _ (lit≤ tt) (not-this 10 (ltb 65535 hop) 5 _ (omega arith) (stored-only routes p L))
 
 -- 8 is not given where the bucket has room
-pub add-not-8 : (t : Settings) (routes : List Route) (p L hop : ℕ) → (1 ≤ L → crowded t routes L p ≡ false) → add-number t routes p L hop ≢ 8
+pub add-not-8 : (t : Settings) (routes : List Route) (p L hop : ℕ) → (1 ≤ L → crowded t routes p L ≡ false) → add-number t routes p L hop ≢ 8
 unfolding add-number refuse
 add-not-8 t routes p L hop empty =
     not-before-5 8 p L _ (lit≤ tt)
     (not-this 8 (ltb 65535 hop) 5 _ (omega arith)
-    (rw (never-stops routes L p (crowded t routes L p) (λ absent. empty))
-    (not-this 8 (needs-place routes L p && overflows t routes L p) 9 0 (omega arith) (omega arith))))
+    (rw (never-stops routes p L (crowded t routes p L) (λ absent. empty))
+    (not-this 8 (needs-place routes p L && overflows t routes p L) 9 0 (omega arith) (omega arith))))

@@ -22,7 +22,7 @@ use Rattle.rules.specs.Tools.{all}
 use Rattle.rules.specs.Table.{Memory, lent, clear, add, lookup, answer-words, list-words, listed, fourfold, list-refusal, lookup-list}
 use Rattle.rules.proofs.Settings.{the-type}
 use Rattle.rules.proofs.Settings.Laws.{the-laws}
-use Rattle.rules.proofs.Worked.{ip, T, same}
+use Rattle.rules.proofs.Worked.{ip, T, same-words}
 use Rattle.promises.specs.History.{Route, Call, Clear, Add, Withdraw, Change, word-sized, all-word-sized, act, ask, history}
 use Rattle.promises.specs.Demands.{Finds, SaysNone, answer-at, Swapped, matches, Longest, adds, refusals, longest, longer}
 use Rattle.promises.specs.Calls.{Made, Ran, Stop, Step, Ask, calls-of, on-paper, Served, ListEnsured, Words}
@@ -56,8 +56,8 @@ day =
 morning : List Call
 morning = Add (ip 10 0 0 0) 8 7 ∷ Add (ip 10 1 0 0) 16 9 ∷ []
 
-day-given : same (refusals T (history T sevens []) day) (0 ∷ 0 ∷ 0 ∷ 0 ∷ 4 ∷ 3 ∷ 5 ∷ 7 ∷ 0 ∷ 0 ∷ 8 ∷ 0 ∷ 0 ∷ []) ≡ true
-unfolding day same refusals computing
+day-given : same-words (refusals T (history T sevens []) day) (0 ∷ 0 ∷ 0 ∷ 0 ∷ 4 ∷ 3 ∷ 5 ∷ 7 ∷ 0 ∷ 0 ∷ 8 ∷ 0 ∷ 0 ∷ []) ≡ true
+unfolding day same-words refusals computing
 day-given = refl
 
 cleared : act T Clear sevens .refusal ≡ 0

@@ -13,7 +13,7 @@ use native.Mathlib.Nat.{zero-add}
 use lib.Dec.{eqb}
 use Rattle.rules.specs.declared.Settings.{Settings}
 use Rattle.rules.specs.Tools.{all}
-use Rattle.rules.specs.Table.{in-range, bucket, Memory, sized, refuse, update, clear, match-vector, bits-where}
+use Rattle.rules.specs.Table.{in-range, bucket, Memory, sized, refuse, unless-refused, clear, match-vector, bits-where}
 use Rattle.rules.proofs.Refusals.{memory-order}
 use Rattle.promises.specs.History.{Route, Call, Clear, Add, Withdraw, word-sized, all-word-sized, act, ask, ask-vector, after, history, about, after-by, history-by}
 use Rattle.promises.specs.Demands.{Stored, sum, number, Reordered, matches, Longest, NoMatch, Finds, SaysNone, SameButHop, number-given, covered, probes-down-to, lengths-in-use, adds, refusals, filter-sum}
@@ -30,7 +30,7 @@ use Rattle.promises.proofs.Replaced.{again-accepted, again-finds, again
 
 -- A history can always begin: under settings in range, over lists of their sizes, a clear is accepted.
 pub clear-accepted : (t : Settings) (before : Memory) → in-range t ≡ true → sized t before ≡ true → act t Clear before .refusal ≡ 0
-unfolding act clear update refuse
+unfolding act clear unless-refused refuse
 clear-accepted t before range sizes = memory-order t before 0 ∙ rw (range, sizes)
 
 module _ (t : Settings) (before : Memory) (calls : List Call) (cleared : act t Clear before .refusal ≡ 0) (words : all-word-sized calls ≡ true) where

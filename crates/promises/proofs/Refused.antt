@@ -14,7 +14,7 @@ use Rattle.rules.specs.declared.Settings.{Settings}
 use Rattle.rules.specs.declared.Place.{Place}
 use Rattle.rules.specs.declared.Place.the-variants.{At, Absent}
 use Rattle.rules.specs.Tools.{all}
-use Rattle.rules.specs.Table.{Memory, lent, slot-number, mark-word, default-word, mark-of, held, needs-slot, memory-refusal, change-refusal, changed, update, clear, add, withdraw, change, match-vector, route-answer, default-answer, place-answer, refused, answer-of, lookup, listed, lookup-list}
+use Rattle.rules.specs.Table.{Memory, lent, slot-number, mark-word, default-word, mark-of, held, needs-slot, memory-refusal, change-refusal, changed, unless-refused, clear, add, withdraw, change, match-vector, route-answer, default-answer, place-answer, refused, answer-of, lookup, listed, lookup-list}
 use Rattle.rules.proofs.Updates.{default-in-place, stored-in-place, held-is-stored, added-in-place, changed-default, changed-mark, changed-counters, add-is-change}
 use Rattle.promises.specs.History.{Call, Clear, Add, Withdraw, Change, act, ask, ask-vector}
 use Rattle.promises.specs.Demands.{there, memory-conditions, route-conditions, conditions, numbers-by, list-conditions, NoneMet, FirstMet}
@@ -54,45 +54,45 @@ never-six t (Change p L hop) m = never-unlisted t (Change p L hop) m 6 (lit≤ t
 
 module _ (t : Settings) (m : Memory) (p L hop : ℕ) where
   -- An add of a stored prefix is a change: it is given the number that a change is given, and writes what a change writes.
-  pub stored-changes : there t (m .slots) L p ≡ true → act t (Add p L hop) m ≡ act t (Change p L hop) m
+  pub stored-changes : there t (m .slots) p L ≡ true → act t (Add p L hop) m ≡ act t (Change p L hop) m
   unfolding act
-  stored-changes stands = add-is-change t m p L hop (stored-there t (m .slots) L p ∙ stands)
+  stored-changes stands = add-is-change t m p L hop (stored-there t (m .slots) p L ∙ stands)
 
   -- So it is given neither 8 nor 9.
-  pub stored-needs-no-room : there t (m .slots) L p ≡ true → (act t (Add p L hop) m .refusal ≢ 8) × (act t (Add p L hop) m .refusal ≢ 9)
+  pub stored-needs-no-room : there t (m .slots) p L ≡ true → (act t (Add p L hop) m .refusal ≢ 8) × (act t (Add p L hop) m .refusal ≢ 9)
   unfolding numbers-by all
   stored-needs-no-room stands =
       rw (stored-changes stands) (never-unlisted t (Change p L hop) m 8 (lit≤ tt) refl, never-unlisted t (Change p L hop) m 9 (lit≤ tt) refl)
 
   -- Every counter stays.
-  pub counters-stay : there t (m .slots) L p ≡ true → act t (Add p L hop) m .memory .counters ≡ m .counters
-  unfolding act change update
+  pub counters-stay : there t (m .slots) p L ≡ true → act t (Add p L hop) m .memory .counters ≡ m .counters
+  unfolding act change unless-refused
   counters-stay stands = ap (λ u. u .memory .counters) (stored-changes stands) ∙ go (eqb (change-refusal t m p L hop) 0)
     where
       go : (accepted : Bool) → cond accepted (changed t m p L hop) m .counters ≡ m .counters
       go true = changed-counters t m p L hop
       go false = refl
 
-  accepted-in-place : act t (Add p L hop) m .refusal ≡ 0 → needs-slot t (m .slots) L p ≡ false → act t (Add p L hop) m .memory ≡ changed t m p L hop
-  unfolding act add update
+  accepted-in-place : act t (Add p L hop) m .refusal ≡ 0 → needs-slot t (m .slots) p L ≡ false → act t (Add p L hop) m .memory ≡ changed t m p L hop
+  unfolding act add unless-refused
   accepted-in-place accepted place = rw (accepted, added-in-place t m p L hop place)
 
   -- Accepted, it writes one word: at length 0 the default's,
   pub default-word-only : L ≡ 0 → act t (Add p L hop) m .refusal ≡ 0
       → act t (Add p L hop) m .memory ≡ lent (m .counters) (set (m .slots) (default-word t) (mark-of hop))
-  default-word-only z accepted = accepted-in-place accepted (default-in-place t (m .slots) L p z) ∙ changed-default t m p L hop z
+  default-word-only z accepted = accepted-in-place accepted (default-in-place t (m .slots) p L z) ∙ changed-default t m p L hop z
 
   -- at any other the mark of the lowest slot that holds the prefix.
-  pub mark-word-only : L ≢ 0 → (s : ℕ) → held t (m .slots) L p ≡ some s → act t (Add p L hop) m .refusal ≡ 0
-      → act t (Add p L hop) m .memory ≡ lent (m .counters) (set (m .slots) (mark-word (slot-number t L p s)) (mark-of hop))
+  pub mark-word-only : L ≢ 0 → (s : ℕ) → held t (m .slots) p L ≡ some s → act t (Add p L hop) m .refusal ≡ 0
+      → act t (Add p L hop) m .memory ≡ lent (m .counters) (set (m .slots) (mark-word (slot-number t p L s)) (mark-of hop))
   mark-word-only up s lowest accepted =
-      accepted-in-place accepted (stored-in-place t (m .slots) L p (held-is-stored t (m .slots) L p up s lowest)) ∙ changed-mark t m p L hop up s lowest
+      accepted-in-place accepted (stored-in-place t (m .slots) p L (held-is-stored t (m .slots) p L up s lowest)) ∙ changed-mark t m p L hop up s lowest
 
 -- ---- Refused calls
 
 -- Where a call is refused, the lent memory is left unchanged.
 pub refused-unchanged : (t : Settings) (call : Call) (m : Memory) → act t call m .refusal ≢ 0 → act t call m .memory ≡ m
-unfolding act clear add withdraw change update
+unfolding act clear add withdraw change unless-refused
 refused-unchanged t Clear m bad = rw (ne-eqb _ 0 bad)
 refused-unchanged t (Add p L hop) m bad = rw (ne-eqb _ 0 bad)
 refused-unchanged t (Withdraw p L) m bad = rw (ne-eqb _ 0 bad)

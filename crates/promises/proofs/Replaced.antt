@@ -49,8 +49,8 @@ module _ (p L hop : ℕ) where
   covered-as-before : (t : Settings) (routes : List Route) (address M : ℕ) → covered t (with-hop p L hop routes) address M ≡ covered t routes address M
   unfolding covered marks
   covered-as-before t routes address M =
-      ap (λ (test : ℕ → Bool). all test (positions t M (prefix M address)))
-      (λ i j. exists-as-before (λ r. eqb (r .length) M && any (eqb j) (positions t M (r .prefix))) (λ r. rw (same-length r, same-prefix r)) routes i)
+      ap (λ (test : ℕ → Bool). all test (positions t (prefix address M) M))
+      (λ i j. exists-as-before (λ r. eqb (r .length) M && any (eqb j) (positions t (r .prefix) M)) (λ r. rw (same-length r, same-prefix r)) routes i)
 
   probes-as-before : (t : Settings) (routes : List Route) (address M : ℕ) → probes-down-to t (with-hop p L hop routes) address M ≡ probes-down-to t routes address M
   unfolding probes-down-to
@@ -74,7 +74,7 @@ module _ (p L hop : ℕ) where
   unfolding longest with-hop matches
   longest-as-before address [] = refl
   longest-as-before address (r ∷ routes) =
-      rw (longest-as-before address routes, same-length r, same-prefix r, longer-as-before r (longest address routes)) (go (eqb (prefix (r .length) address) (r .prefix)))
+      rw (longest-as-before address routes, same-length r, same-prefix r, longer-as-before r (longest address routes)) (go (eqb (prefix address (r .length)) (r .prefix)))
     where
       go : (b : Bool) → cond b (renewed (longer r (longest address routes))) (renewed (longest address routes)) ≡ renewed (cond b (longer r (longest address routes)) (longest address routes))
       go true = refl
@@ -117,7 +117,7 @@ module _ {t : Settings} {routes : List Route} {m : Memory} (kept : Kept t routes
 
   changes : act t (Add (r .prefix) (r .length) hop) m ≡ act t (Change (r .prefix) (r .length) hop) m
   unfolding act
-  changes = add-is-change t m (r .prefix) (r .length) hop (stored-exists kept (r .length) (r .prefix) (its .high) (its .tight) (its .word) ∙ listed)
+  changes = add-is-change t m (r .prefix) (r .length) hop (stored-exists kept (r .prefix) (r .length) (its .high) (its .tight) (its .word) ∙ listed)
 
   kept-again : Kept t (with-hop (r .prefix) (r .length) hop routes) then
   unfolding next-by noted written word-sized
@@ -152,7 +152,7 @@ module _ {t : Settings} {routes : List Route} {m : Memory} (kept : Kept t routes
     unfolding about matches
     one-match q best own =
         let as-long : q .length ≡ r .length = omega (arith, own .longest q (best .stored) (best .matching), best .longest r (own .stored) (own .matching)) in
-        let alike : q .prefix ≡ r .prefix = sym (eqb-true _ _ (best .matching)) ∙ ap (λ (n : ℕ). prefix n address) as-long ∙ eqb-true _ _ (own .matching) in
+        let alike : q .prefix ≡ r .prefix = sym (eqb-true _ _ (best .matching)) ∙ ap (λ (n : ℕ). prefix address n) as-long ∙ eqb-true _ _ (own .matching) in
         rw (eq-eqb _ _ alike, eq-eqb _ _ as-long)
 
     -- where the route answered, its new hop does

@@ -12,14 +12,14 @@ use lib.ListN.{length, take, set}
 use borrow.Author.Tests.{eqb-true, eq-eqb, ltb-true}
 use Rattle.rules.specs.declared.Settings.{Settings}
 use Rattle.rules.specs.Tools.{any, those}
-use Rattle.rules.specs.Table.{Memory, Update, lent, left, default-word, default-mark, mark-of, slot-number, counter-places, vacant, stored, from-1, full, with-slot, with-found, update, step-each, added, clear, add, withdraw, change, hits, vector-of, down-from, set-bits, search as searched, default-answer, place-answer, one-if}
+use Rattle.rules.specs.Table.{Memory, Outcome, lent, left, default-word, default-mark, mark-of, slot-number, counter-places, vacant, stored, from-1, full, with-slot, with-found, unless-refused, step-each, added, clear, add, withdraw, change, hits, vector-of, down-from, set-bits, search as searched, default-answer, place-answer, one-if}
 use Rattle.rules.proofs.Members.{both}
 use Rattle.promises.specs.History.{Route, Call, Clear, Add, Withdraw, Change, word-sized, all-word-sized, act, ask, Acting}
 use Rattle.promises.specs.Demands.{probes-down-to, longest}
 use Rattle.promises.specs.Programs.{Asking, Promised, Honest}
 use Rattle.promises.proofs.Matches.{answer-by, Right, right}
 use Rattle.rules.proofs.Worked.{ip, T}
-use Rattle.promises.proofs.Agree.{sevens, Z, right-number, same, right-answer, add-8, add-16, pair, again, four-then-one, showing}
+use Rattle.promises.proofs.Agree.{sevens, Z, right-number, same-answers, right-answer, add-8, add-16, pair, again, four-then-one, showing}
 use Rattle.promises.proofs.Promises as promise
 
 -- The calls of the rules are not among them: they keep the promises.
@@ -56,11 +56,11 @@ module _ (t : Settings) where
 
 -- what is promised is what is due
 due-answer : {acting : Acting} {asking : Asking} {t : Settings} {m : Memory} {routes : List Route} → Promised acting asking t m routes
-    → (address : ℕ) → address < 2 ^ 32 → same (asking t address m) (answer-by t routes address (longest address routes)) ≡ true
-unfolding same answer-by
+    → (address : ℕ) → address < 2 ^ 32 → same-answers (asking t address m) (answer-by t routes address (longest address routes)) ≡ true
+unfolding same-answers answer-by
 due-answer {acting} {asking} {t} {m} {routes} promised address word = go (longest address routes) (right address routes)
   where
-    go : (o : Option Route) → Right address routes o → same (asking t address m) (answer-by t routes address o) ≡ true
+    go : (o : Option Route) → Right address routes o → same-answers (asking t address m) (answer-by t routes address o) ≡ true
     go none no-match =
         let its = promised .says-none address word no-match in
         let probes = probes-down-to t routes address 0 in
@@ -87,25 +87,25 @@ module _ (t : Settings) where
 
 -- ---- Programs that differ from the rules in one call
 
-abbrev pub with-clear : (Settings → Memory → Update) → Acting
+abbrev pub with-clear : (Settings → Memory → Outcome) → Acting
 with-clear other t Clear m = other t m
 with-clear other t (Add p L hop) m = add t m p L hop
 with-clear other t (Withdraw p L) m = withdraw t m p L
 with-clear other t (Change p L hop) m = change t m p L hop
 
-abbrev pub with-add : (Settings → Memory → (p L hop : ℕ) → Update) → Acting
+abbrev pub with-add : (Settings → Memory → (p L hop : ℕ) → Outcome) → Acting
 with-add other t Clear m = clear t m
 with-add other t (Add p L hop) m = other t m p L hop
 with-add other t (Withdraw p L) m = withdraw t m p L
 with-add other t (Change p L hop) m = change t m p L hop
 
-abbrev pub with-withdraw : (Settings → Memory → (p L : ℕ) → Update) → Acting
+abbrev pub with-withdraw : (Settings → Memory → (p L : ℕ) → Outcome) → Acting
 with-withdraw other t Clear m = clear t m
 with-withdraw other t (Add p L hop) m = add t m p L hop
 with-withdraw other t (Withdraw p L) m = other t m p L
 with-withdraw other t (Change p L hop) m = change t m p L hop
 
-abbrev pub with-change : (Settings → Memory → (p L hop : ℕ) → Update) → Acting
+abbrev pub with-change : (Settings → Memory → (p L hop : ℕ) → Outcome) → Acting
 with-change other t Clear m = clear t m
 with-change other t (Add p L hop) m = add t m p L hop
 with-change other t (Withdraw p L) m = withdraw t m p L
@@ -118,13 +118,13 @@ with-probes probes t address m =
     record { refusal = a .refusal; found = a .found; hop = a .hop; length = a .length; probes = probes t address m }
 
 -- the number that a call should give, with other memory, other counters or other slots
-abbrev pub says-ok : Update → Memory → Update
+abbrev pub says-ok : Outcome → Memory → Outcome
 says-ok u m = record { refusal = u .refusal; memory = m }
 
-abbrev pub with-counters : Update → List ℕ → Update
+abbrev pub with-counters : Outcome → List ℕ → Outcome
 with-counters u counters = left (u .refusal) counters (u .memory .slots)
 
-abbrev pub with-slots : Update → List ℕ → Update
+abbrev pub with-slots : Outcome → List ℕ → Outcome
 with-slots u slots = left (u .refusal) (u .memory .counters) slots
 
 -- to unfold this is to unfold all that one is shown up by
@@ -187,20 +187,20 @@ thirty-two-probes = by-answer T act _ [] 0 refl
 pub withdraw-takes-shared-marks :
     Honest (with-withdraw (λ t m p L.
     let u = withdraw t m p L in
-    update (u .refusal) (lent (step-each (λ n. 0) (m .counters) (counter-places t L p)) (u .memory .slots)) m)) ask → ⊥
+    unless-refused (u .refusal) (lent (step-each (λ n. 0) (m .counters) (counter-places t p L)) (u .memory .slots)) m)) ask → ⊥
 unfolding shown
 withdraw-takes-shared-marks = by-answer T _ ask (pair ++ Withdraw (ip 8 0 0 0) 8 ∷ []) (ip 10 2 2 3) refl
 
 -- A withdrawal that empties its whole bucket: 10/8 is no longer stored.
 pub withdraw-takes-two :
     Honest (with-withdraw (λ t m p L.
-    with-slots (withdraw t m p L) (with-slot (with-slot (m .slots) (slot-number t L p 0) 0 0) (slot-number t L p 1) 0 0))) ask → ⊥
+    with-slots (withdraw t m p L) (with-slot (with-slot (m .slots) (slot-number t p L 0) 0 0) (slot-number t p L 1) 0 0))) ask → ⊥
 unfolding shown
 withdraw-takes-two = by-number T _ ask (pair ++ Withdraw (ip 8 0 0 0) 8 ∷ []) (Withdraw (ip 10 0 0 0) 8) refl
 
 -- An add that always writes slot 0 of its bucket: 10/8 is no longer stored once 8/8 is.
 pub add-evicts :
-    Honest (with-add (λ t m p L hop. with-slots (add t m p L hop) (with-slot (m .slots) (slot-number t L p 0) p (mark-of hop)))) ask → ⊥
+    Honest (with-add (λ t m p L hop. with-slots (add t m p L hop) (with-slot (m .slots) (slot-number t p L 0) p (mark-of hop)))) ask → ⊥
 unfolding shown
 add-evicts = by-number T _ ask pair (Withdraw (ip 10 0 0 0) 8) refl
 
@@ -209,7 +209,7 @@ add-evicts = by-number T _ ask pair (Withdraw (ip 10 0 0 0) 8) refl
 pub first-counter-raised :
     Honest (with-add (λ t m p L hop.
     let u = add t m p L hop in
-    cond (ltb 7 (u .refusal)) (with-counters u (step-each (λ n. n + 1) (m .counters) (take 1 (counter-places t L p)))) u)) ask → ⊥
+    cond (ltb 7 (u .refusal)) (with-counters u (step-each (λ n. n + 1) (m .counters) (take 1 (counter-places t p L)))) u)) ask → ⊥
 unfolding shown
 first-counter-raised = by-answer T _ ask (pair ++ Add 0 8 1 ∷ Withdraw (ip 10 0 0 0) 8 ∷ Withdraw (ip 8 0 0 0) 8 ∷ []) 1 refl
 
@@ -217,7 +217,7 @@ first-counter-raised = by-answer T _ ask (pair ++ Add 0 8 1 ∷ Withdraw (ip 10 
 pub doubled-raised-once :
     Honest (with-add (λ t m p L hop.
     let u = add t m p L hop in
-    let once = those (λ i. ltb 0 (hits t L p i)) (down-from (length (m .counters))) in
+    let once = those (λ i. ltb 0 (hits t p L i)) (down-from (length (m .counters))) in
     cond (eqb (u .refusal) 0) (with-counters u (step-each (λ n. n + 1) (m .counters) once)) u)) ask → ⊥
 unfolding shown
 doubled-raised-once = by-number T _ ask (Add 0 8 1 ∷ []) (Withdraw 0 8) refl
@@ -227,7 +227,7 @@ doubled-raised-once = by-number T _ ask (Add 0 8 1 ∷ []) (Withdraw 0 8) refl
 pub counter-sticks :
     Honest (with-add (λ t m p L hop.
     let u = add t m p L hop in
-    let stuck = step-each (λ n. cond (ltb n 15) (n + 1) 15) (m .counters) (counter-places t L p) in
+    let stuck = step-each (λ n. cond (ltb n 15) (n + 1) 15) (m .counters) (counter-places t p L) in
     cond (eqb (u .refusal) 9) (left 0 stuck (added t m p L hop .slots)) u)) ask → ⊥
 unfolding shown
 counter-sticks = by-answer Z _ ask four-then-one 4 refl
@@ -236,19 +236,19 @@ counter-sticks = by-answer Z _ ask four-then-one 4 refl
 
 -- Refuses it, with 6.
 pub stored-refused :
-    Honest (with-add (λ t m p L hop. cond (stored t (m .slots) L p) (left 6 (m .counters) (m .slots)) (add t m p L hop))) ask → ⊥
+    Honest (with-add (λ t m p L hop. cond (stored t (m .slots) p L) (left 6 (m .counters) (m .slots)) (add t m p L hop))) ask → ⊥
 unfolding shown
 stored-refused = by-number T _ ask (add-8 ∷ []) add-8 refl
 
 -- Asks for a free slot first: 8/8 is refused in its full bucket.
 pub full-before-stored :
-    Honest (with-add (λ t m p L hop. cond (from-1 L (full t (m .slots) L p)) (left 8 (m .counters) (m .slots)) (add t m p L hop))) ask → ⊥
+    Honest (with-add (λ t m p L hop. cond (from-1 L (full t (m .slots) p L)) (left 8 (m .counters) (m .slots)) (add t m p L hop))) ask → ⊥
 unfolding shown
 full-before-stored = by-number T _ ask pair (Add (ip 8 0 0 0) 8 6) refl
 
 -- Says ok and leaves the old hop: 10.2.2.3 gets it.
 pub old-hop-stays :
-    Honest (with-add (λ t m p L hop. let u = add t m p L hop in says-ok u (cond (stored t (m .slots) L p) m (u .memory)))) ask → ⊥
+    Honest (with-add (λ t m p L hop. let u = add t m p L hop in says-ok u (cond (stored t (m .slots) p L) m (u .memory)))) ask → ⊥
 unfolding shown
 old-hop-stays = by-answer T _ ask again (ip 10 2 2 3) refl
 
@@ -256,7 +256,7 @@ old-hop-stays = by-answer T _ ask again (ip 10 2 2 3) refl
 pub raised-again :
     Honest (with-add (λ t m p L hop.
     let u = add t m p L hop in
-    with-counters u (cond (stored t (m .slots) L p) (step-each (λ n. n + 1) (m .counters) (counter-places t L p)) (u .memory .counters)))) ask → ⊥
+    with-counters u (cond (stored t (m .slots) p L) (step-each (λ n. n + 1) (m .counters) (counter-places t p L)) (u .memory .counters)))) ask → ⊥
 unfolding shown
 raised-again = by-answer T _ ask (again ++ Withdraw (ip 10 0 0 0) 8 ∷ []) (ip 10 2 2 3) refl
 
@@ -264,7 +264,7 @@ raised-again = by-answer T _ ask (again ++ Withdraw (ip 10 0 0 0) 8 ∷ []) (ip 
 pub first-free-taken :
     Honest (with-add (λ t m p L hop.
     let u = add t m p L hop in
-    with-slots u (cond (stored t (m .slots) L p) (with-found t (m .slots) L p (vacant t (m .slots) L p) p (mark-of hop)) (u .memory .slots)))) ask → ⊥
+    with-slots u (cond (stored t (m .slots) p L) (with-found t (m .slots) p L (vacant t (m .slots) p L) p (mark-of hop)) (u .memory .slots)))) ask → ⊥
 unfolding shown
 first-free-taken = by-number T _ ask (again ++ Withdraw (ip 10 0 0 0) 8 ∷ []) (Withdraw (ip 10 0 0 0) 8) refl
 

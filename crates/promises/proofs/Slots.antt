@@ -29,8 +29,8 @@ unfoldable pub slot-weight : (weight : ℕ → ℕ → ℕ) (slots : List ℕ) (
 slot-weight weight slots n = weigh weight (prefix-at slots n) (mark-at slots n)
 
 -- what p's bucket at length L weighs
-unfoldable pub bucket-weight : Settings → (weight : ℕ → ℕ → ℕ) (slots : List ℕ) (L p : ℕ) → ℕ
-bucket-weight t weight slots L p = below (λ s. slot-weight weight slots (slot-number t L p s)) (t .s)
+unfoldable pub bucket-weight : Settings → (weight : ℕ → ℕ → ℕ) (slots : List ℕ) (p L : ℕ) → ℕ
+bucket-weight t weight slots p L = below (λ s. slot-weight weight slots (slot-number t p L s)) (t .s)
 
 pub weigh-free : (weight : ℕ → ℕ → ℕ) (q mark : ℕ) → occupied mark ≡ false → weigh weight q mark ≡ 0
 unfolding weigh
@@ -76,45 +76,45 @@ module _ (slots : List ℕ) (n q mark m : ℕ) (other : m ≢ n) where
 unfoldable pub same-bucket : Settings → (L M p q : ℕ) → Bool
 same-bucket t L M p q = eqb L M && eqb (bucket t p) (bucket t q)
 
-same-number : (t : Settings) (L M p q : ℕ) → same-bucket t L M p q ≡ true → (s : ℕ) → slot-number t M q s ≡ slot-number t L p s
+same-number : (t : Settings) (L M p q : ℕ) → same-bucket t L M p q ≡ true → (s : ℕ) → slot-number t q M s ≡ slot-number t p L s
 unfolding same-bucket slot-number
 same-number t L M p q same s =
     let parts = both (eqb L M) _ same in
     rw (eqb-true L M (parts .0), eqb-true (bucket t p) (bucket t q) (parts .1))
 
 -- the law: p's bucket at L has slot u written, and any bucket gains and loses what it gains and loses there
-module _ (t : Settings) (slots : List ℕ) (L p u q mark : ℕ) (ready : Ready t L) (within : u < t .s) (size : length slots ≡ slots-size t) where
+module _ (t : Settings) (slots : List ℕ) (p L u q mark : ℕ) (ready : Ready t L) (within : u < t .s) (size : length slots ≡ slots-size t) where
   number : ℕ
-  number = slot-number t L p u
+  number = slot-number t p L u
 
   written : List ℕ
   written = with-slot slots number q mark
 
   fits : mark-word number < length slots
   unfolding number
-  fits = let k = words-fit t L p u ready within .mark in rw size (omega (arith, default-fits t))
+  fits = let k = words-fit t p L u ready within .mark in rw size (omega (arith, default-fits t))
 
   slot-now : (weight : ℕ → ℕ → ℕ) → slot-weight weight written number ≡ weigh weight q mark
   unfolding slot-weight written
   slot-now weight = rw (mark-written slots number q mark fits, prefix-written slots number q mark fits)
 
   pub bucket-written : (M r : ℕ) → Ready t M → (weight : ℕ → ℕ → ℕ)
-      → bucket-weight t weight (with-slot slots (slot-number t L p u) q mark) M r + cond (same-bucket t L M p r) (slot-weight weight slots (slot-number t L p u)) 0
-      ≡ bucket-weight t weight slots M r + cond (same-bucket t L M p r) (weigh weight q mark) 0
+      → bucket-weight t weight (with-slot slots (slot-number t p L u) q mark) r M + cond (same-bucket t L M p r) (slot-weight weight slots (slot-number t p L u)) 0
+      ≡ bucket-weight t weight slots r M + cond (same-bucket t L M p r) (weigh weight q mark) 0
   unfolding bucket-weight number written same-bucket
   bucket-written M r other weight = by-cases (same-bucket t L M p r)
       (λ same. rw same
       (let numbers = same-number t L M p r same in
-      let step = below-but-one (λ s. slot-weight weight written (slot-number t M r s)) (λ s. slot-weight weight slots (slot-number t M r s)) (t .s) u within
-      (λ s l apart. slot-kept slots number q mark (slot-number t M r s)
-      (λ e. apart (slot-apart t M r s L p u (ready .range) (other .low) (ready .low) l within e .slot)) weight) in
-      let now : slot-weight weight written (slot-number t M r u) ≡ weigh weight q mark = rw (numbers u) (slot-now weight) in
-      let before : slot-weight weight slots (slot-number t M r u) ≡ slot-weight weight slots number = rw (numbers u) in
+      let step = below-but-one (λ s. slot-weight weight written (slot-number t r M s)) (λ s. slot-weight weight slots (slot-number t r M s)) (t .s) u within
+      (λ s l apart. slot-kept slots number q mark (slot-number t r M s)
+      (λ e. apart (slot-apart t r M s p L u (ready .range) (other .low) (ready .low) l within e .slot)) weight) in
+      let now : slot-weight weight written (slot-number t r M u) ≡ weigh weight q mark = rw (numbers u) (slot-now weight) in
+      let before : slot-weight weight slots (slot-number t r M u) ≡ slot-weight weight slots number = rw (numbers u) in
       rw (now, before) at step))
       (λ differs. rw (
         differs,
-        below-agree (λ s. slot-weight weight written (slot-number t M r s)) (λ s. slot-weight weight slots (slot-number t M r s)) (t .s)
-            (λ s l. slot-kept slots number q mark (slot-number t M r s)
-            (λ e. let k = slot-apart t M r s L p u (ready .range) (other .low) (ready .low) l within e in
+        below-agree (λ s. slot-weight weight written (slot-number t r M s)) (λ s. slot-weight weight slots (slot-number t r M s)) (t .s)
+            (λ s l. slot-kept slots number q mark (slot-number t r M s)
+            (λ e. let k = slot-apart t r M s p L u (ready .range) (other .low) (ready .low) l within e in
             true≢false (simp (eq-eqb L M (sym (k .length)), eq-eqb (bucket t p) (bucket t r) (sym (k .bucket))) at differs)) weight),
       ))

@@ -54,7 +54,7 @@ settled {t} p L counters slots old new kept paper kept-slots kept-counters new-f
 new-fits : (p L hop : ℕ) → Checked p L → hop ≤ 65535 → p < 2 ^ 32 → worth (one (λ r. not (fit r))) p L (some hop) ≡ 0
 unfolding worth fit
 new-fits p L hop valid high word =
-    rw (le-leb L 32 (valid .high), eq-eqb (prefix L p) p (valid .tight), le-leb hop 65535 high, lt-ltb p (2 ^ 32) word)
+    rw (le-leb L 32 (valid .high), eq-eqb (prefix p L) p (valid .tight), le-leb hop 65535 high, lt-ltb p (2 ^ 32) word)
 
 weigh-hop : (weight : ℕ → ℕ → ℕ) (q hop : ℕ) → hop ≤ 65535 → weigh weight q (mark-of hop) ≡ weight q (mark-of hop)
 weigh-hop weight q hop high = weigh-occupied weight q (mark-of hop) (mark-occupied hop high)
@@ -74,15 +74,15 @@ module _ {t : Settings} {routes : List Route} {m : Memory} (kept : Kept t routes
       → landings t routes M j + worth (lands t M j) p L (some hop) ≤ 15 + worth (lands t M j) p L none
   unfolding worth overflows
   room-added L hop ok absent M j of-m = by-cases (eqb L M)
-      (λ same. rw same (go (count j (positions t M p)) refl (eqb-true L M same)))
+      (λ same. rw same (go (count j (positions t p M)) refl (eqb-true L M same)))
       (λ other. rw other (omega (arith, kept .small M j of-m)))
     where
-      go : (n : ℕ) → count j (positions t M p) ≡ n → L ≡ M → landings t routes M j + n ≤ 15 + 0
+      go : (n : ℕ) → count j (positions t p M) ≡ n → L ≡ M → landings t routes M j + n ≤ 15 + 0
       go zero e same = omega (arith, kept .small M j of-m)
       go (suc n) e same =
           let fine = rw same at (ok .room absent (rw same (of-m .low))) in
-          let below-16 : landings t routes M j + count j (positions t M p) ≤ 15 =
-          ltb-false 15 _ (any-false (λ j. ltb 15 (landings t routes M j + count j (positions t M p))) (positions t M p) fine j (omega arith)) in
+          let below-16 : landings t routes M j + count j (positions t p M) ≤ 15 =
+          ltb-false 15 _ (any-false (λ j. ltb 15 (landings t routes M j + count j (positions t p M))) (positions t p M) fine j (omega arith)) in
           omega arith
 
   once-added : (L hop : ℕ) → exists (about p L) routes ≡ false → (q M : ℕ)
@@ -94,15 +94,15 @@ module _ {t : Settings} {routes : List Route} {m : Memory} (kept : Kept t routes
       omega arith))
       (λ other. rw other (omega (arith, kept .once q M)))
 
-  default-stands : prefix 0 p ≡ p → occupied (default-mark t (m .slots)) ≡ exists (about p 0) routes
+  default-stands : prefix p 0 ≡ p → occupied (default-mark t (m .slots)) ≡ exists (about p 0) routes
   unfolding stored
-  default-stands tight = stored-exists kept 0 p (omega arith) tight word
+  default-stands tight = stored-exists kept p 0 (omega arith) tight word
 
   new-keeps : (L hop : ℕ) → Addable t routes p L hop → exists (about p L) routes ≡ false → Kept t (route p L hop ∷ without p L routes) (added t m p L hop)
   unfolding worth in-default full vacant free slot-weight
   new-keeps zero hop ok absent =
       let paper = paper-added p 0 hop routes absent in
-      rw (added-in-place t m p 0 hop (default-in-place t (m .slots) 0 p refl), changed-default t m p 0 hop refl)
+      rw (added-in-place t m p 0 hop (default-in-place t (m .slots) p 0 refl), changed-default t m p 0 hop refl)
       (settled p 0 (m .counters) _ none (some hop) kept paper
       (default-step (kept .slots) p (mark-of hop) none (some hop)
       (λ weight. weigh-free weight 0 _ (default-stands (ok .valid .tight) ∙ absent))
@@ -113,12 +113,12 @@ module _ {t : Settings} {routes : List Route} {m : Memory} (kept : Kept t routes
   new-keeps (suc L) hop ok absent =
       let paper = paper-added p (suc L) hop routes absent in
       let of-l : Ready t (suc L) = ready (kept .range) (omega arith) (ok .valid .high) in
-      let u = found (vacant t (m .slots) (suc L) p) (not-false _ (full-crowded (kept .slots) (suc L) p of-l ∙ ok .vacancy absent (of-l .low))) in
-      let low = some-lowest (free t (m .slots) (suc L) p) (t .s) (u .0) (u .1) in
-      let needed = new-needs-slot t (m .slots) (suc L) p (suc-ne-zero L) (stored-exists kept (suc L) p (ok .valid .high) (ok .valid .tight) word ∙ absent) in
+      let u = found (vacant t (m .slots) p (suc L)) (not-false _ (full-crowded (kept .slots) p (suc L) of-l ∙ ok .vacancy absent (of-l .low))) in
+      let low = some-lowest (free t (m .slots) p (suc L)) (t .s) (u .0) (u .1) in
+      let needed = new-needs-slot t (m .slots) p (suc L) (suc-ne-zero L) (stored-exists kept p (suc L) (ok .valid .high) (ok .valid .tight) word ∙ absent) in
       rw (added-slot t m p (suc L) hop needed (u .0) (u .1))
       (settled p (suc L) _ _ none (some hop) kept paper
-      (slot-step (kept .slots) (suc L) p (u .0) p (mark-of hop) none (some hop) of-l (low .within)
+      (slot-step (kept .slots) p (suc L) (u .0) p (mark-of hop) none (some hop) of-l (low .within)
       (λ weight. weigh-free weight _ _ (not-true _ (low .passes)))
       (λ weight. weigh-hop weight p hop (ok .hop-high)) paper)
       (kept-added p (suc L) (kept .counters) hop of-l paper)
@@ -131,13 +131,13 @@ module _ {t : Settings} {routes : List Route} {m : Memory} (kept : Kept t routes
     hop : ℕ
     within : s < t .s
     member : List·Memᴰ (route p L hop) routes
-    weighs : (weight : ℕ → ℕ → ℕ) → slot-weight weight (m .slots) (slot-number t L p s) ≡ weight p (mark-of hop)
+    weighs : (weight : ℕ → ℕ → ℕ) → slot-weight weight (m .slots) (slot-number t p L s) ≡ weight p (mark-of hop)
 
-  in-slot : (L : ℕ) → Ready t L → exists (about p L) routes ≡ true → (s : ℕ) × (held t (m .slots) L p ≡ some s) × InSlot L s
+  in-slot : (L : ℕ) → Ready t L → exists (about p L) routes ≡ true → (s : ℕ) × (held t (m .slots) p L ≡ some s) × InSlot L s
   unfolding slot-weight
   in-slot L of-l there =
-      let s = found (held t (m .slots) L p) (held-exists (kept .slots) L p of-l ∙ there) in
-      let at = held-stored (kept .slots) L p (s .0) of-l (s .1) in
+      let s = found (held t (m .slots) p L) (held-exists (kept .slots) p L of-l ∙ there) in
+      let at = held-stored (kept .slots) p L (s .0) of-l (s .1) in
       let its = at .1 in (
         s .0,
         s .1,
@@ -154,13 +154,13 @@ module _ {t : Settings} {routes : List Route} {m : Memory} (kept : Kept t routes
     member : List·Memᴰ (route p 0 hop) routes
     weighs : (weight : ℕ → ℕ → ℕ) → weigh weight 0 (default-mark t (m .slots)) ≡ weight 0 (mark-of hop)
 
-  in-word : prefix 0 p ≡ p → exists (about p 0) routes ≡ true → InDefault
+  in-word : prefix p 0 ≡ p → exists (about p 0) routes ≡ true → InDefault
   in-word tight there =
       let taken = default-stands tight ∙ there in
       let r = default-stored (kept .slots) taken in
       let its = fits kept (r .0) (r .1) in
       let same : r .0 .prefix ≡ p =
-      sym (its .tight) ∙ ap (λ (L : ℕ). prefix L (r .0 .prefix)) (r .2) ∙ prefix-zero (r .0 .prefix) (its .word) ∙ sym (prefix-zero p word) ∙ tight in
+      sym (its .tight) ∙ ap (λ (L : ℕ). prefix (r .0 .prefix) L) (r .2) ∙ prefix-zero (r .0 .prefix) (its .word) ∙ sym (prefix-zero p word) ∙ tight in
       record {
         hop = r .0 .hop;
         member = Memᴰ·cast (route-of (r .0) same (r .2)) (r .1);
@@ -191,7 +191,7 @@ module _ {t : Settings} {routes : List Route} {m : Memory} (kept : Kept t routes
       let at = s .2 in
       rw (withdrawn-slot t m p (suc L) (suc-ne-zero L) (s .0) (s .1))
       (less (suc L) (at .hop) _ _ (at .member)
-      (slot-step (kept .slots) (suc L) p (s .0) 0 0 (some (at .hop)) none of-l (at .within) (at .weighs) (λ weight. weigh-zero weight 0)
+      (slot-step (kept .slots) p (suc L) (s .0) 0 0 (some (at .hop)) none of-l (at .within) (at .weighs) (λ weight. weigh-zero weight 0)
       (paper-withdrawn p (suc L) (at .hop) (at .member) (kept .once p (suc L))))
       (kept-withdrawn p (suc L) (kept .counters) (at .hop) of-l (paper-withdrawn p (suc L) (at .hop) (at .member) (kept .once p (suc L)))))
 
@@ -220,7 +220,7 @@ module _ {t : Settings} {routes : List Route} {m : Memory} (kept : Kept t routes
       let at = s .2 in
       rw (changed-slot t m p (suc L) hop (suc-ne-zero L) (s .0) (s .1))
       (other-hop (suc L) (at .hop) hop _ (paper (at .hop) (at .member)) valid high
-      (slot-step (kept .slots) (suc L) p (s .0) p (mark-of hop) (some (at .hop)) (some hop) of-l (at .within) (at .weighs) (λ weight. weigh-hop weight p hop high)
+      (slot-step (kept .slots) p (suc L) (s .0) p (mark-of hop) (some (at .hop)) (some hop) of-l (at .within) (at .weighs) (λ weight. weigh-hop weight p hop high)
       (paper (at .hop) (at .member))))
 
   pub changed-keeps : (L hop : ℕ) → Checked p L → hop ≤ 65535 → exists (about p L) routes ≡ true → Kept t (with-hop p L hop routes) (changed t m p L hop)
@@ -229,6 +229,6 @@ module _ {t : Settings} {routes : List Route} {m : Memory} (kept : Kept t routes
 
   pub added-keeps : (L hop : ℕ) → Addable t routes p L hop → Kept t (route p L hop ∷ without p L routes) (added t m p L hop)
   added-keeps L hop ok = by-cases (exists (about p L) routes)
-      (λ there. rw (added-in-place t m p L hop (stored-in-place t (m .slots) L p (stored-exists kept L p (ok .valid .high) (ok .valid .tight) word ∙ there)))
+      (λ there. rw (added-in-place t m p L hop (stored-in-place t (m .slots) p L (stored-exists kept p L (ok .valid .high) (ok .valid .tight) word ∙ there)))
       (hop-keeps L hop (route p L hop ∷ without p L routes) (ok .valid) (ok .hop-high) there (λ old member. paper-replaced p L old hop member (kept .once p L))))
       (λ absent. new-keeps L hop ok absent)

@@ -38,14 +38,14 @@ every-below test zero = true
 every-below test (suc n) = every-below test n && test n
 
 -- p is stored: at length 0 the default's mark is occupied, at any other some slot of p's bucket is, with p in it
-unfoldable pub there : Settings → (slots : List ℕ) (L p : ℕ) → Bool
-there t slots L p =
+unfoldable pub there : Settings → (slots : List ℕ) (p L : ℕ) → Bool
+there t slots p L =
     cond (eqb L 0) (occupied (default-mark t slots))
-    (some-below (λ s. occupied (mark-at slots (slot-number t L p s)) && eqb (prefix-at slots (slot-number t L p s)) p) (t .s))
+    (some-below (λ s. occupied (mark-at slots (slot-number t p L s)) && eqb (prefix-at slots (slot-number t p L s)) p) (t .s))
 
 -- every slot of p's bucket is occupied
-unfoldable pub no-slot-left : Settings → (slots : List ℕ) (L p : ℕ) → Bool
-no-slot-left t slots L p = every-below (λ s. occupied (mark-at slots (slot-number t L p s))) (t .s)
+unfoldable pub no-slot-left : Settings → (slots : List ℕ) (p L : ℕ) → Bool
+no-slot-left t slots p L = every-below (λ s. occupied (mark-at slots (slot-number t p L s))) (t .s)
 
 -- the list of D is not of 32 numbers, or one of them is out of its range
 unfoldable pub list-outside : (d : List ℕ) → Bool
@@ -59,30 +59,30 @@ memory-conditions t m =
     ∷ []
 
 -- what every update looks at next: the length, and the bits after it
-unfoldable pub route-conditions : (L p : ℕ) → List Condition
-route-conditions L p = (3 when ltb 32 L) ∷ (4 when ltb 0 (p % 2 ^ (32 - L))) ∷ []
+unfoldable pub route-conditions : (p L : ℕ) → List Condition
+route-conditions p L = (3 when ltb 32 L) ∷ (4 when ltb 0 (p % 2 ^ (32 - L))) ∷ []
 
 -- each call's conditions, in the order in which they are looked at
 unfoldable pub conditions : Settings → Call → Memory → List Condition
 conditions t Clear m = memory-conditions t m
 conditions t (Add p L hop) m =
     memory-conditions t m
-    ++ route-conditions L p
+    ++ route-conditions p L
     ++ (5 when ltb 65535 hop)
-    ∷ (8 when ltb 0 L && not (there t (m .slots) L p) && no-slot-left t (m .slots) L p)
-    ∷ (9 when ltb 0 L && not (there t (m .slots) L p) && any (λ i. ltb 15 (getD (m .counters) i 0 + hits t L p i)) (counter-places t L p))
+    ∷ (8 when ltb 0 L && not (there t (m .slots) p L) && no-slot-left t (m .slots) p L)
+    ∷ (9 when ltb 0 L && not (there t (m .slots) p L) && any (λ i. ltb 15 (getD (m .counters) i 0 + hits t p L i)) (counter-places t p L))
     ∷ []
 conditions t (Withdraw p L) m =
     memory-conditions t m
-    ++ route-conditions L p
-    ++ (7 when not (there t (m .slots) L p))
-    ∷ (10 when ltb 0 L && any (λ i. ltb (getD (m .counters) i 0) (hits t L p i)) (counter-places t L p))
+    ++ route-conditions p L
+    ++ (7 when not (there t (m .slots) p L))
+    ∷ (10 when ltb 0 L && any (λ i. ltb (getD (m .counters) i 0) (hits t p L i)) (counter-places t p L))
     ∷ []
 conditions t (Change p L hop) m =
     memory-conditions t m
-    ++ route-conditions L p
+    ++ route-conditions p L
     ++ (5 when ltb 65535 hop)
-    ∷ (7 when not (there t (m .slots) L p))
+    ∷ (7 when not (there t (m .slots) p L))
     ∷ []
 
 -- the numbers that each call can give back, in that order
@@ -138,7 +138,7 @@ pub data Reordered : List Route → List Route → Type 0 where
 
 -- a route matches an address exactly if the address's prefix of its length is its prefix
 unfoldable pub matches : (address : ℕ) → Route → Bool
-matches address r = eqb (prefix (r .length) address) (r .prefix)
+matches address r = eqb (prefix address (r .length)) (r .prefix)
 
 -- r is stored and matches, and no stored route that matches is longer
 pub record Longest (address : ℕ) (routes : List Route) (r : Route) : Type 0 where
@@ -197,42 +197,42 @@ answer-at results i =
 -- ---- Numbers given back, by the stored routes
 
 -- a route of length L in the bucket of p
-unfoldable pub beside : Settings → (L p : ℕ) → Route → Bool
-beside t L p r = eqb (r .length) L && eqb (bucket t (r .prefix)) (bucket t p)
+unfoldable pub beside : Settings → (p L : ℕ) → Route → Bool
+beside t p L r = eqb (r .length) L && eqb (bucket t (r .prefix)) (bucket t p)
 
 -- the routes stored with this length and bucket number S
-unfoldable pub crowded : Settings → List Route → (L p : ℕ) → Bool
-crowded t routes L p = eqb (number (beside t L p) routes) (t .s)
+unfoldable pub crowded : Settings → List Route → (p L : ℕ) → Bool
+crowded t routes p L = eqb (number (beside t p L) routes) (t .s)
 
 -- how often the stored routes of length L land on position j
 unfoldable pub landings : Settings → List Route → (L j : ℕ) → ℕ
-landings t routes L j = sum (λ r. cond (eqb (r .length) L) (count j (positions t L (r .prefix))) 0) routes
+landings t routes L j = sum (λ r. cond (eqb (r .length) L) (count j (positions t (r .prefix) L)) 0) routes
 
 -- at some position of p these landings and p's own pass 15
-unfoldable pub overflows : Settings → List Route → (L p : ℕ) → Bool
-overflows t routes L p = any (λ j. ltb 15 (landings t routes L j + count j (positions t L p))) (positions t L p)
+unfoldable pub overflows : Settings → List Route → (p L : ℕ) → Bool
+overflows t routes p L = any (λ j. ltb 15 (landings t routes L j + count j (positions t p L))) (positions t p L)
 
 -- p needs a place: the default has one, and so has a route that is stored
-unfoldable pub needs-place : List Route → (L p : ℕ) → Bool
-needs-place routes L p = from-1 L (not (exists (about p L) routes))
+unfoldable pub needs-place : List Route → (p L : ℕ) → Bool
+needs-place routes p L = from-1 L (not (exists (about p L) routes))
 
 -- the conditions of each update in the listed order, with their numbers
 unfoldable pub add-number : Settings → List Route → (p L hop : ℕ) → ℕ
 add-number t routes p L hop =
     refuse (ltb 32 L) 3
-    (refuse (loose L p) 4
+    (refuse (loose p L) 4
     (refuse (ltb 65535 hop) 5
-    (refuse (needs-place routes L p && crowded t routes L p) 8 (refuse (needs-place routes L p && overflows t routes L p) 9 0))))
+    (refuse (needs-place routes p L && crowded t routes p L) 8 (refuse (needs-place routes p L && overflows t routes p L) 9 0))))
 
 -- those of a withdrawal
 unfoldable pub withdraw-number : List Route → (p L : ℕ) → ℕ
-withdraw-number routes p L = refuse (ltb 32 L) 3 (refuse (loose L p) 4 (refuse (not (exists (about p L) routes)) 7 0))
+withdraw-number routes p L = refuse (ltb 32 L) 3 (refuse (loose p L) 4 (refuse (not (exists (about p L) routes)) 7 0))
 
 -- and those of a change
 unfoldable pub change-number : List Route → (p L hop : ℕ) → ℕ
 change-number routes p L hop =
     refuse (ltb 32 L) 3
-    (refuse (loose L p) 4 (refuse (ltb 65535 hop) 5 (refuse (not (exists (about p L) routes)) 7 0)))
+    (refuse (loose p L) 4 (refuse (ltb 65535 hop) 5 (refuse (not (exists (about p L) routes)) 7 0)))
 
 -- what a call is given; a clear is always accepted
 unfoldable pub number-given : Settings → List Route → Call → ℕ
@@ -245,11 +245,11 @@ number-given t routes (Change p L hop) = change-number routes p L hop
 
 -- j is a position of this route, and the route has length L
 unfoldable pub marks : Settings → (L j : ℕ) → Route → Bool
-marks t L j r = eqb (r .length) L && any (eqb j) (positions t L (r .prefix))
+marks t L j r = eqb (r .length) L && any (eqb j) (positions t (r .prefix) L)
 
 -- whatever position the address has in the filter of length L, a stored route of length L has it too
 unfoldable pub covered : Settings → List Route → (address L : ℕ) → Bool
-covered t routes address L = all (λ j. exists (marks t L j) routes) (positions t L (prefix L address))
+covered t routes address L = all (λ j. exists (marks t L j) routes) (positions t (prefix address L) L)
 
 -- how many lengths, from 32 down to this one (down to 1 for length 0), are so
 unfoldable pub probes-down-to : Settings → List Route → (address L : ℕ) → ℕ

@@ -7,7 +7,7 @@ use lib.Dec.{ltb, eqb}
 use Rattle.rules.specs.declared.Settings.{Settings}
 use Rattle.rules.specs.declared.Answer.{Answer}
 use Rattle.rules.specs.declared.Vector.{Vector}
-use Rattle.rules.specs.Table.{Memory, Update, clear, add, withdraw, change, lookup, match-vector}
+use Rattle.rules.specs.Table.{Memory, Outcome, clear, add, withdraw, change, lookup, match-vector}
 
 -- a route as it stands on paper; that of length 0 is the default
 pub record Route : Type 0 where
@@ -35,7 +35,7 @@ all-word-sized [] = true
 all-word-sized (call ∷ calls) = word-sized call && all-word-sized calls
 
 -- what a call gives back and leaves
-unfoldable pub act : Settings → Call → Memory → Update
+unfoldable pub act : Settings → Call → Memory → Outcome
 act t Clear m = clear t m
 act t (Add p L hop) m = add t m p L hop
 act t (Withdraw p L) m = withdraw t m p L
@@ -81,7 +81,7 @@ pub record State : Type 0 where
 
 -- what the calls of a program that write give back and leave
 abbrev pub Acting : Type 0
-Acting = Settings → Call → Memory → Update
+Acting = Settings → Call → Memory → Outcome
 
 -- after one call more to that program
 unfoldable pub next-by : Acting → Settings → State → Call → State

@@ -11,7 +11,7 @@ use settings::refuse_sizes;
 
 // 1 to 4, which every update checks.
 pub fn refuse_route(settings: Settings, counters: &[u8], slots: &[u32], p: u32, length: u32) -> u32
-    ensures { λ r. ⌜ r ≡ route-refusal settings (lent (now (counters .entry)) (now (slots .entry))) length p 0 ⌝ }
+    ensures { λ r. ⌜ r ≡ route-refusal settings (lent (now (counters .entry)) (now (slots .entry))) p length 0 ⌝ }
 {
     let refusal = refuse_memory(settings, counters, slots);
     if refusal != 0 {
@@ -35,7 +35,7 @@ pub fn refuse_hop(
     length: u32,
     hop: u32,
 ) -> u32
-    ensures { λ r. ⌜ r ≡ route-refusal settings (lent (now (counters .entry)) (now (slots .entry))) length p (refuse (ltb 65535 hop) 5 0) ⌝ }
+    ensures { λ r. ⌜ r ≡ route-refusal settings (lent (now (counters .entry)) (now (slots .entry))) p length (refuse (ltb 65535 hop) 5 0) ⌝ }
 {
     let refusal = refuse_route(settings, counters, slots, p, length);
     if refusal != 0 {

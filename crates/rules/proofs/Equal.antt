@@ -74,12 +74,12 @@ module _ (t : Settings) (D : ℕ) (equal : t .d ≡ replicate 32 D) where
   unfolding filter-bits
   equal-bits L low high = rw equal (each-equal D (L - 1) 32 (omega arith))
 
-  pub equal-positions : (L p : ℕ) → 1 ≤ L → L ≤ 32 → positions t L p ≡ one-positions t D p
+  pub equal-positions : (p L : ℕ) → 1 ≤ L → L ≤ 32 → positions t p L ≡ one-positions t D p
   unfolding positions one-positions
-  equal-positions L p low high = rw (equal-bits L low high)
+  equal-positions p L low high = rw (equal-bits L low high)
 
   -- so the counters of a prefix lie where they do with one D
-  pub equal-places : (L p : ℕ) → 1 ≤ L → L ≤ 32 → counter-places t L p ≡ map (λ j. one-start D L + j) (one-positions t D p)
+  pub equal-places : (p L : ℕ) → 1 ≤ L → L ≤ 32 → counter-places t p L ≡ map (λ j. one-start D L + j) (one-positions t D p)
   unfolding counter-places counter-place
-  equal-places L p low high =
-      ap (map (counter-place t L)) (equal-positions L p low high) ∙ ap (λ (start : ℕ). map (λ j. start + j) (one-positions t D p)) (equal-start L high)
+  equal-places p L low high =
+      ap (map (counter-place t L)) (equal-positions p L low high) ∙ ap (λ (start : ℕ). map (λ j. start + j) (one-positions t D p)) (equal-start L high)

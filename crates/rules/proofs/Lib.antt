@@ -1,5 +1,6 @@
 -- The laws that other crates cite, and the worked cases.
 pub mod Answers
+pub mod Calls
 pub mod Equal
 pub mod Found
 pub mod Levels

@@ -106,13 +106,13 @@ bits-fit : (t : Settings) (L : ℕ) → Ready t L → filter-bits t L ≤ 32
 bits-fit t L ready = omega (arith, filter-bits-high t L ready)
 
 -- there are K positions, and each is one of the filter's
-pub positions-length : (t : Settings) (L p : ℕ) → length (positions t L p) ≡ t .k
+pub positions-length : (t : Settings) (p L : ℕ) → length (positions t p L) ≡ t .k
 unfolding positions
-positions-length t L p = simp length-map (steps-length (t .k) (wrap (t .a * p)) (wrap (t .b * p)))
+positions-length t p L = simp length-map (steps-length (t .k) (wrap (t .a * p)) (wrap (t .b * p)))
 
-pub positions-lt : (t : Settings) (L p : ℕ) → Ready t L → (j : ℕ) → Among j (positions t L p) → j < 2 ^ filter-bits t L
+pub positions-lt : (t : Settings) (p L : ℕ) → Ready t L → (j : ℕ) → Among j (positions t p L) → j < 2 ^ filter-bits t L
 unfolding positions
-positions-lt t L p ready j m =
+positions-lt t p L ready j m =
     let at = among-map (λ g. g / 2 ^ (32 - filter-bits t L)) (steps (t .k) (wrap (t .a * p)) (wrap (t .b * p))) j m in
     rw (at .2) (top-lt (filter-bits t L) (at .0) (bits-fit t L ready) (steps-lt (t .k) (wrap (t .a * p)) (wrap (t .b * p)) (wrap-lt (t .a * p)) (at .0) (at .1)))
 
@@ -139,19 +139,19 @@ more (D ∷ d) (suc n) zero h = absurd (not-suc-le-zero h)
 more (D ∷ d) (suc n) (suc m) h = omega (arith, more d n m (le-of-suc-le-suc h))
 
 -- a place among the counters of a list: in which filter it lies, and at which position
-record Listed (d : List ℕ) (i : ℕ) : Type 0 where
+record InList (d : List ℕ) (i : ℕ) : Type 0 where
   pub place : ℕ
   pub rest : ℕ
   pub there : place < length d
   pub inside : rest < 2 ^ getD d place 0
   pub is : i ≡ filters-size (take place d) + rest
 
-listed : (d : List ℕ) (i : ℕ) → i < filters-size d → Listed d i
+listed : (d : List ℕ) (i : ℕ) → i < filters-size d → InList d i
 unfolding filters-size
 listed [] i h = absurd (not-suc-le-zero h)
 listed (D ∷ d) i h = go (ltb i (2 ^ D)) refl (listed d (i - 2 ^ D))
   where
-    go : (b : Bool) → ltb i (2 ^ D) ≡ b → (i - 2 ^ D < filters-size d → Listed d (i - 2 ^ D)) → Listed (D ∷ d) i
+    go : (b : Bool) → ltb i (2 ^ D) ≡ b → (i - 2 ^ D < filters-size d → InList d (i - 2 ^ D)) → InList (D ∷ d) i
     go true e later = record { place = 0; rest = i; there = omega arith; inside = ltb-true i (2 ^ D) e; is = sym (zero-add i) }
     go false e later =
         let after = ltb-false i (2 ^ D) e in
@@ -257,36 +257,36 @@ place-of t i range h =
     }
 
 -- there are K places, and each is a counter of the filter
-pub places-length : (t : Settings) (L p : ℕ) → length (counter-places t L p) ≡ t .k
+pub places-length : (t : Settings) (p L : ℕ) → length (counter-places t p L) ≡ t .k
 unfolding counter-places
-places-length t L p = simp length-map (positions-length t L p)
+places-length t p L = simp length-map (positions-length t p L)
 
-pub places-inside : (t : Settings) (L p : ℕ) → Ready t L → (i : ℕ) → Among i (counter-places t L p) → InFilter t L i
+pub places-inside : (t : Settings) (p L : ℕ) → Ready t L → (i : ℕ) → Among i (counter-places t p L) → InFilter t L i
 unfolding counter-places
-places-inside t L p ready i m =
-    let at = among-map (counter-place t L) (positions t L p) i m in
-    rw (at .2) (place-inside t L (at .0) (positions-lt t L p ready (at .0) (at .1)))
+places-inside t p L ready i m =
+    let at = among-map (counter-place t L) (positions t p L) i m in
+    rw (at .2) (place-inside t L (at .0) (positions-lt t p L ready (at .0) (at .1)))
 
 -- ---- Hits
 
 -- a counter's hits are how often it is one of p's places
-pub hits-places : (t : Settings) (L p i : ℕ) → hits t L p i ≡ count i (counter-places t L p)
+pub hits-places : (t : Settings) (p L i : ℕ) → hits t p L i ≡ count i (counter-places t p L)
 unfolding hits
-hits-places t L p i = refl
+hits-places t p L i = refl
 
 -- and how often its position is one of p's
-pub hits-at : (t : Settings) (L p j : ℕ) → hits t L p (counter-place t L j) ≡ count j (positions t L p)
+pub hits-at : (t : Settings) (p L j : ℕ) → hits t p L (counter-place t L j) ≡ count j (positions t p L)
 unfolding hits counter-places
-hits-at t L p j = count-map (counter-place t L) (place-apart t L) j (positions t L p)
+hits-at t p L j = count-map (counter-place t L) (place-apart t L) j (positions t p L)
 
 -- a counter of another filter has none
-pub hits-other : (t : Settings) (L M p i : ℕ) → Ready t L → Ready t M → InFilter t M i → L ≢ M → hits t L p i ≡ 0
+pub hits-other : (t : Settings) (L M p i : ℕ) → Ready t L → Ready t M → InFilter t M i → L ≢ M → hits t p L i ≡ 0
 unfolding hits
-hits-other t L M p i of-l of-m inside apart = go (count i (counter-places t L p)) refl
+hits-other t L M p i of-l of-m inside apart = go (count i (counter-places t p L)) refl
   where
-    go : (n : ℕ) → count i (counter-places t L p) ≡ n → n ≡ 0
+    go : (n : ℕ) → count i (counter-places t p L) ≡ n → n ≡ 0
     go zero e = refl
-    go (suc n) e = absurd (apart (one-filter t L M i of-l of-m (places-inside t L p of-l i (omega arith)) inside))
+    go (suc n) e = absurd (apart (one-filter t L M i of-l of-m (places-inside t p L of-l i (omega arith)) inside))
 
 -- ---- Slots
 
@@ -296,15 +296,15 @@ digits-apart base q r q′ r′ h h′ e =
     (sym (digits-div q h) ∙ ap (λ (x : ℕ). x / base) e ∙ digits-div q′ h′, sym (digits-mod q h) ∙ ap (λ (x : ℕ). x % base) e ∙ digits-mod q′ h′)
 
 -- one slot: of one length, one bucket and one number in it
-pub record SameSlot (t : Settings) (L p s M q u : ℕ) : Type 0 where
+pub record SameSlot (t : Settings) (p L s q M u : ℕ) : Type 0 where
   pub length : L ≡ M
   pub bucket : bucket t p ≡ bucket t q
   pub slot : s ≡ u
 
-pub slot-apart : (t : Settings) (L p s M q u : ℕ) → in-range t ≡ true → 1 ≤ L → 1 ≤ M → s < t .s → u < t .s
-    → slot-number t L p s ≡ slot-number t M q u → SameSlot t L p s M q u
+pub slot-apart : (t : Settings) (p L s q M u : ℕ) → in-range t ≡ true → 1 ≤ L → 1 ≤ M → s < t .s → u < t .s
+    → slot-number t p L s ≡ slot-number t q M u → SameSlot t p L s q M u
 unfolding slot-number
-slot-apart t L p s M q u range l m hs hu e =
+slot-apart t p L s q M u range l m hs hu e =
     let outer = digits-apart (t .s) _ s _ u hs hu e in
     let inner = digits-apart (2 ^ t .e) (L - 1) (bucket t p) (M - 1) (bucket t q) (bucket-lt t p range) (bucket-lt t q range) (outer .0) in
     let same = inner .0 in
@@ -329,9 +329,9 @@ pub record WordsFit (t : Settings) (n : ℕ) : Type 0 where
   pub prefix : prefix-word n < default-word t
   pub mark : mark-word n < default-word t
 
-pub words-fit : (t : Settings) (L p s : ℕ) → Ready t L → s < t .s → WordsFit t (slot-number t L p s)
+pub words-fit : (t : Settings) (p L s : ℕ) → Ready t L → s < t .s → WordsFit t (slot-number t p L s)
 unfolding slot-number prefix-word mark-word default-word slots-size
-words-fit t L p s ready h =
+words-fit t p L s ready h =
     let lengths : L - 1 < 32 = omega arith in
     let number = digits-lt (digits-lt lengths (bucket-lt t p (ready .range))) h in
     let whole : 64 * 2 ^ t .e * t .s ≡ 2 * (32 * 2 ^ t .e * t .s) = ap (λ (x : ℕ). x * t .s) (mul-assoc 2 32 (2 ^ t .e)) ∙ mul-assoc 2 (32 * 2 ^ t .e) (t .s) in

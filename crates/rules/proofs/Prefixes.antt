@@ -12,20 +12,20 @@ use borrow.Author.Tests.{eqb-true, eq-eqb, ne-eqb, lt-ltb, not-false}
 use Rattle.rules.specs.Table.{prefix, loose}
 
 -- a prefix is at most its address
-pub prefix-le : (L address : ℕ) → prefix L address ≤ address
+pub prefix-le : (address L : ℕ) → prefix address L ≤ address
 unfolding prefix
-prefix-le L address = div-mul-le-self address (2 ^ (32 - L))
+prefix-le address L = div-mul-le-self address (2 ^ (32 - L))
 
-pub prefix-lt : (L address : ℕ) → address < 2 ^ 32 → prefix L address < 2 ^ 32
-prefix-lt L address h = lt-of-le-of-lt (prefix-le L address) h
+pub prefix-lt : (address L : ℕ) → address < 2 ^ 32 → prefix address L < 2 ^ 32
+prefix-lt address L h = lt-of-le-of-lt (prefix-le address L) h
 
 -- no bit is set after its length
-pub prefix-low : (L address : ℕ) → prefix L address % 2 ^ (32 - L) ≡ 0
+pub prefix-low : (address L : ℕ) → prefix address L % 2 ^ (32 - L) ≡ 0
 unfolding prefix
-prefix-low L address = mul-mod-left (address / 2 ^ (32 - L)) (2 ^ (32 - L))
+prefix-low address L = mul-mod-left (address / 2 ^ (32 - L)) (2 ^ (32 - L))
 
 -- the shorter prefix of a prefix is that of the address
-pub prefix-shorter : (L M address : ℕ) → L ≤ M → prefix L (prefix M address) ≡ prefix L address
+pub prefix-shorter : (L M address : ℕ) → L ≤ M → prefix (prefix address M) L ≡ prefix address L
 unfolding prefix
 prefix-shorter L M address h = ap (λ (q : ℕ). q * 2 ^ (32 - L)) quotient
   where
@@ -50,41 +50,41 @@ cleared n j k w bits fits =
     (rw (pow-add 2 k 1) (omega arith))
 
 -- the prefix of one length less is this one with one further bit cleared, the bit 2^(32 − L)
-pub prefix-next : (L address : ℕ) → 1 ≤ L → L ≤ 32 → address < 2 ^ 32 → bitAnd (prefix L address) (2 ^ 32 - 1 - 2 ^ (32 - L)) ≡ prefix (L - 1) address
+pub prefix-next : (address L : ℕ) → 1 ≤ L → L ≤ 32 → address < 2 ^ 32 → bitAnd (prefix address L) (2 ^ 32 - 1 - 2 ^ (32 - L)) ≡ prefix address (L - 1)
 unfolding prefix
-prefix-next L address low high fits =
+prefix-next address L low high fits =
     let more : 32 - (L - 1) ≡ 32 - L + 1 = omega arith in
     rw more (cleared address (L - 1) (32 - L) 32 (omega arith) fits)
 
 -- a prefix is its own prefix
-pub prefix-again : (L address : ℕ) → prefix L (prefix L address) ≡ prefix L address
-prefix-again L address = prefix-shorter L L address (le-refl L)
+pub prefix-again : (address L : ℕ) → prefix (prefix address L) L ≡ prefix address L
+prefix-again address L = prefix-shorter L L address (le-refl L)
 
 -- addresses that agree at a length agree at each shorter one
-pub prefix-agree : (L M a b : ℕ) → L ≤ M → prefix M a ≡ prefix M b → prefix L a ≡ prefix L b
-prefix-agree L M a b h e = sym (prefix-shorter L M a h) ∙ ap (prefix L) e ∙ prefix-shorter L M b h
+pub prefix-agree : (L M a b : ℕ) → L ≤ M → prefix a M ≡ prefix b M → prefix a L ≡ prefix b L
+prefix-agree L M a b h e = sym (prefix-shorter L M a h) ∙ ap (λ (n : ℕ). prefix n L) e ∙ prefix-shorter L M b h
 
 -- at length 0 nothing is left, and at length 32 all of it
-pub prefix-zero : (address : ℕ) → address < 2 ^ 32 → prefix 0 address ≡ 0
+pub prefix-zero : (address : ℕ) → address < 2 ^ 32 → prefix address 0 ≡ 0
 unfolding prefix
 prefix-zero address h = ap (λ (q : ℕ). q * 2 ^ 32) (div-eq-of-lt h)
 
-pub prefix-32 : (address : ℕ) → prefix 32 address ≡ address
+pub prefix-32 : (address : ℕ) → prefix address 32 ≡ address
 unfolding prefix
 prefix-32 address = mul-one (address / 1) ∙ div-one address
 
 -- a number with no bit set after the length is a prefix of that length
-pub loose-false : (L p : ℕ) → (loose L p ≡ false) ↔ (prefix L p ≡ p)
+pub loose-false : (p L : ℕ) → (loose p L ≡ false) ↔ (prefix p L ≡ p)
 unfolding loose
-loose-false L p = (λ h. eqb-true (prefix L p) p (not-false (eqb (prefix L p) p) h), λ e. rw (eq-eqb (prefix L p) p e))
+loose-false p L = (λ h. eqb-true (prefix p L) p (not-false (eqb (prefix p L) p) h), λ e. rw (eq-eqb (prefix p L) p e))
 
-pub loose-prefix : (L address : ℕ) → loose L (prefix L address) ≡ false
-loose-prefix L address = loose-false L (prefix L address) .1 (prefix-again L address)
+pub loose-prefix : (address L : ℕ) → loose (prefix address L) L ≡ false
+loose-prefix address L = loose-false (prefix address L) L .1 (prefix-again address L)
 
 -- a bit is set after the length exactly if what the prefix leaves of the number is not zero
-pub loose-low : (L p : ℕ) → loose L p ≡ ltb 0 (p % 2 ^ (32 - L))
+pub loose-low : (p L : ℕ) → loose p L ≡ ltb 0 (p % 2 ^ (32 - L))
 unfolding loose prefix
-loose-low L p = go (p % 2 ^ (32 - L)) refl
+loose-low p L = go (p % 2 ^ (32 - L)) refl
   where
     whole : p / 2 ^ (32 - L) * 2 ^ (32 - L) + p % 2 ^ (32 - L) ≡ p
     whole = split p (32 - L)

@@ -9,7 +9,7 @@ use lib.Dec.{ltb, eqb}
 use lib.ListN.{length}
 use borrow.Author.Tests.{ltb-false, le-ltb, eqb-true, eq-eqb, ne-eqb, not-false}
 use Rattle.rules.specs.declared.Settings.{Settings}
-use Rattle.rules.specs.Table.{Memory, lent, in-range, counters-size, slots-size, prefix, stored, full, passes-15, runs-short, refuse, from-1, needs-slot, sized, loose, memory-refusal, route-refusal, add-refusal, withdraw-refusal, change-refusal, fourfold, list-refusal, update}
+use Rattle.rules.specs.Table.{Memory, lent, in-range, counters-size, slots-size, prefix, stored, full, passes-15, runs-short, refuse, from-1, needs-slot, sized, loose, memory-refusal, route-refusal, add-refusal, withdraw-refusal, change-refusal, fourfold, list-refusal, unless-refused}
 use Rattle.rules.specs.Ready.{Ready, Counters, Slots}
 use Rattle.rules.proofs.Members.{both}
 use Rattle.rules.proofs.Prefixes.{loose-false}
@@ -32,17 +32,17 @@ pub memory-passing : (t : Settings) (m : Memory) → Passing (memory-refusal t m
 unfolding memory-refusal
 memory-passing t m = more-passing (not (in-range t)) 0 (more-passing (not (sized t m)) 1 none-passing)
 
-route-then : (t : Settings) (m : Memory) (L p : ℕ) {checks : ℕ → ℕ} → Passing checks → Passing (λ after. route-refusal t m L p (checks after))
+route-then : (t : Settings) (m : Memory) (p L : ℕ) {checks : ℕ → ℕ} → Passing checks → Passing (λ after. route-refusal t m p L (checks after))
 unfolding route-refusal memory-refusal
-route-then t m L p h =
+route-then t m p L h =
     more-passing (not (in-range t)) 0
-    (more-passing (not (sized t m)) 1 (more-passing (ltb 32 L) 2 (more-passing (loose L p) 3 h)))
+    (more-passing (not (sized t m)) 1 (more-passing (ltb 32 L) 2 (more-passing (loose p L) 3 h)))
 
-pub route-passing : (t : Settings) (m : Memory) (L p : ℕ) → Passing (route-refusal t m L p)
-route-passing t m L p = route-then t m L p none-passing
+pub route-passing : (t : Settings) (m : Memory) (p L : ℕ) → Passing (route-refusal t m p L)
+route-passing t m p L = route-then t m p L none-passing
 
-pub hop-passing : (t : Settings) (m : Memory) (L p hop : ℕ) → Passing (λ after. route-refusal t m L p (refuse (ltb 65535 hop) 5 after))
-hop-passing t m L p hop = route-then t m L p (more-passing (ltb 65535 hop) 4 none-passing)
+pub hop-passing : (t : Settings) (m : Memory) (p L hop : ℕ) → Passing (λ after. route-refusal t m p L (refuse (ltb 65535 hop) 5 after))
+hop-passing t m p L hop = route-then t m p L (more-passing (ltb 65535 hop) 4 none-passing)
 
 pub list-passing : (t : Settings) (m : Memory) (addresses results : ℕ) → Passing (list-refusal t m addresses results)
 unfolding list-refusal memory-refusal
@@ -85,29 +85,29 @@ fits t counters slots f after =
     simp (f .range, eq-eqb _ _ (f .counters-fit), eq-eqb _ _ (f .slots-fit))
 
 -- what 1 to 4 not given tells
-pub record RouteFitted (t : Settings) (counters slots : List ℕ) (L p : ℕ) : Type 0 where
+pub record RouteFitted (t : Settings) (counters slots : List ℕ) (p L : ℕ) : Type 0 where
   pub memory : Fitted t counters slots
   pub high : L ≤ 32
-  pub tight : prefix L p ≡ p
+  pub tight : prefix p L ≡ p
 
-pub route-passed : (t : Settings) (counters slots : List ℕ) (L p after : ℕ) → route-refusal t (lent counters slots) L p after ≡ 0
-    → RouteFitted t counters slots L p × (after ≡ 0)
+pub route-passed : (t : Settings) (counters slots : List ℕ) (p L after : ℕ) → route-refusal t (lent counters slots) p L after ≡ 0
+    → RouteFitted t counters slots p L × (after ≡ 0)
 unfolding route-refusal
-route-passed t counters slots L p after e =
-    let two = memory-passed t counters slots (refuse (ltb 32 L) 3 (refuse (loose L p) 4 after)) e in
-    let three = passed (ltb 32 L) 2 (refuse (loose L p) 4 after) (two .1) in
-    let four = passed (loose L p) 3 after (three .1) in
-    (record { memory = two .0; high = ltb-false _ _ (three .0); tight = loose-false L p .0 (four .0) }, four .1)
+route-passed t counters slots p L after e =
+    let two = memory-passed t counters slots (refuse (ltb 32 L) 3 (refuse (loose p L) 4 after)) e in
+    let three = passed (ltb 32 L) 2 (refuse (loose p L) 4 after) (two .1) in
+    let four = passed (loose p L) 3 after (three .1) in
+    (record { memory = two .0; high = ltb-false _ _ (three .0); tight = loose-false p L .0 (four .0) }, four .1)
 
 -- and the other way
-pub route-fits : (t : Settings) (counters slots : List ℕ) (L p : ℕ) → RouteFitted t counters slots L p
-    → (after : ℕ) → route-refusal t (lent counters slots) L p after ≡ after
+pub route-fits : (t : Settings) (counters slots : List ℕ) (p L : ℕ) → RouteFitted t counters slots p L
+    → (after : ℕ) → route-refusal t (lent counters slots) p L after ≡ after
 unfolding route-refusal refuse
-route-fits t counters slots L p f after =
-    fits t counters slots (f .memory) _ ∙ simp (le-ltb _ _ (f .high), loose-false L p .1 (f .tight))
+route-fits t counters slots p L f after =
+    fits t counters slots (f .memory) _ ∙ simp (le-ltb _ _ (f .high), loose-false p L .1 (f .tight))
 
 -- and so the inner steps of an update may count on this
-module _ {t : Settings} {counters slots : List ℕ} {L p : ℕ} (f : RouteFitted t counters slots L p) where
+module _ {t : Settings} {counters slots : List ℕ} {p L : ℕ} (f : RouteFitted t counters slots p L) where
   pub fitted-ready : (L ≡ 0 → ⊥) → Ready t L
   fitted-ready up = record { range = f .memory .range; low = omega arith; high = f .high }
 
@@ -118,14 +118,14 @@ module _ {t : Settings} {counters slots : List ℕ} {L p : ℕ} (f : RouteFitted
   fitted-slots = record { size = f .memory .slots-fit }
 
 -- what 1 to 5 not given tells
-pub record HopFitted (t : Settings) (counters slots : List ℕ) (L p hop : ℕ) : Type 0 where
-  pub route : RouteFitted t counters slots L p
+pub record HopFitted (t : Settings) (counters slots : List ℕ) (p L hop : ℕ) : Type 0 where
+  pub route : RouteFitted t counters slots p L
   pub small : hop ≤ 65535
 
-pub hop-passed : (t : Settings) (counters slots : List ℕ) (L p hop after : ℕ)
-    → route-refusal t (lent counters slots) L p (refuse (ltb 65535 hop) 5 after) ≡ 0 → HopFitted t counters slots L p hop × (after ≡ 0)
-hop-passed t counters slots L p hop after e =
-    let to4 = route-passed t counters slots L p (refuse (ltb 65535 hop) 5 after) e in
+pub hop-passed : (t : Settings) (counters slots : List ℕ) (p L hop after : ℕ)
+    → route-refusal t (lent counters slots) p L (refuse (ltb 65535 hop) 5 after) ≡ 0 → HopFitted t counters slots p L hop × (after ≡ 0)
+hop-passed t counters slots p L hop after e =
+    let to4 = route-passed t counters slots p L (refuse (ltb 65535 hop) 5 after) e in
     let to5 = passed (ltb 65535 hop) 4 after (to4 .1) in
     (record { route = to4 .0; small = ltb-false _ _ (to5 .0) }, to5 .1)
 
@@ -139,31 +139,31 @@ module _ {checks : ℕ → ℕ} (passing : Passing checks) {given : ℕ} (e : gi
 
 -- what an accepted add tells
 pub record AddFitted (t : Settings) (counters slots : List ℕ) (p L hop : ℕ) : Type 0 where
-  pub route : RouteFitted t counters slots L p
+  pub route : RouteFitted t counters slots p L
   pub small : hop ≤ 65535
-  pub room : needs-slot t slots L p && full t slots L p ≡ false
-  pub level : needs-slot t slots L p && passes-15 t counters L p ≡ false
+  pub room : needs-slot t slots p L && full t slots p L ≡ false
+  pub level : needs-slot t slots p L && passes-15 t counters p L ≡ false
 
 pub add-passed : (t : Settings) (counters slots : List ℕ) (p L hop : ℕ) → add-refusal t (lent counters slots) p L hop ≡ 0
     → AddFitted t counters slots p L hop
 unfolding add-refusal
 add-passed t counters slots p L hop e =
-    let nine = refuse (needs-slot t slots L p && passes-15 t counters L p) 9 0 in
-    let eight = refuse (needs-slot t slots L p && full t slots L p) 8 nine in
-    let to4 = route-passed t counters slots L p (refuse (ltb 65535 hop) 5 eight) e in
+    let nine = refuse (needs-slot t slots p L && passes-15 t counters p L) 9 0 in
+    let eight = refuse (needs-slot t slots p L && full t slots p L) 8 nine in
+    let to4 = route-passed t counters slots p L (refuse (ltb 65535 hop) 5 eight) e in
     let to5 = passed (ltb 65535 hop) 4 eight (to4 .1) in
-    let to8 = passed (needs-slot t slots L p && full t slots L p) 7 nine (to5 .1) in
-    let to9 = passed (needs-slot t slots L p && passes-15 t counters L p) 8 0 (to8 .1) in
+    let to8 = passed (needs-slot t slots p L && full t slots p L) 7 nine (to5 .1) in
+    let to9 = passed (needs-slot t slots p L && passes-15 t counters p L) 8 0 (to8 .1) in
     record { route = to4 .0; small = ltb-false _ _ (to5 .0); room = to8 .0; level = to9 .0 }
 
 -- an update whose checks gave this number
 module _ (refusal : ℕ) (after before : Memory) {given : ℕ} (e : given ≡ refusal) where
-  pub refused-by : (given ≡ 0 → ⊥) → update refusal after before ≡ record { refusal = given; memory = before }
-  unfolding update
+  pub refused-by : (given ≡ 0 → ⊥) → unless-refused refusal after before ≡ record { refusal = given; memory = before }
+  unfolding unless-refused
   refused-by bad = rw (← e, ne-eqb _ _ bad)
 
-  pub accepted-by : given ≡ 0 → update refusal after before ≡ record { refusal = 0; memory = after }
-  unfolding update
+  pub accepted-by : given ≡ 0 → unless-refused refusal after before ≡ record { refusal = 0; memory = after }
+  unfolding unless-refused
   accepted-by good = rw (← e, good)
 
 -- ---- Each call's checks, in their order
@@ -175,22 +175,22 @@ memory-order t m after = refl
 pub add-order : (t : Settings) (m : Memory) (p L hop : ℕ) → add-refusal t m p L hop
     ≡ memory-refusal t m
     (refuse (ltb 32 L) 3
-    (refuse (loose L p) 4
+    (refuse (loose p L) 4
     (refuse (ltb 65535 hop) 5
-    (refuse (from-1 L (not (stored t (m .slots) L p)) && full t (m .slots) L p) 8
-    (refuse (from-1 L (not (stored t (m .slots) L p)) && passes-15 t (m .counters) L p) 9 0)))))
+    (refuse (from-1 L (not (stored t (m .slots) p L)) && full t (m .slots) p L) 8
+    (refuse (from-1 L (not (stored t (m .slots) p L)) && passes-15 t (m .counters) p L) 9 0)))))
 unfolding add-refusal route-refusal needs-slot
 add-order t m p L hop = refl
 
 pub withdraw-order : (t : Settings) (m : Memory) (p L : ℕ) → withdraw-refusal t m p L
     ≡ memory-refusal t m
     (refuse (ltb 32 L) 3
-    (refuse (loose L p) 4 (refuse (not (stored t (m .slots) L p)) 7 (refuse (from-1 L (runs-short t (m .counters) L p)) 10 0))))
+    (refuse (loose p L) 4 (refuse (not (stored t (m .slots) p L)) 7 (refuse (from-1 L (runs-short t (m .counters) p L)) 10 0))))
 unfolding withdraw-refusal route-refusal
 withdraw-order t m p L = refl
 
 pub change-order : (t : Settings) (m : Memory) (p L hop : ℕ) → change-refusal t m p L hop
     ≡ memory-refusal t m
-    (refuse (ltb 32 L) 3 (refuse (loose L p) 4 (refuse (ltb 65535 hop) 5 (refuse (not (stored t (m .slots) L p)) 7 0))))
+    (refuse (ltb 32 L) 3 (refuse (loose p L) 4 (refuse (ltb 65535 hop) 5 (refuse (not (stored t (m .slots) p L)) 7 0))))
 unfolding change-refusal route-refusal
 change-order t m p L hop = refl

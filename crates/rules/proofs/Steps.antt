@@ -53,16 +53,16 @@ pub step-down : (counters places : List ℕ) (i : ℕ) → i < length counters
     → getD (step-each (λ n. n - 1) counters places) i 0 ≡ getD counters i 0 - count i places
 step-down = stepped (λ n. n - 1) _-_ sub-zero (λ n many. omega arith)
 
-module _ (t : Settings) (counters : List ℕ) (L p : ℕ) where
+module _ (t : Settings) (counters : List ℕ) (p L : ℕ) where
   -- the tests by position
-  pub passes-15-at : passes-15 t counters L p ≡ any (λ j. ltb 15 (getD counters (counter-place t L j) 0 + count j (positions t L p))) (positions t L p)
+  pub passes-15-at : passes-15 t counters p L ≡ any (λ j. ltb 15 (getD counters (counter-place t L j) 0 + count j (positions t p L))) (positions t p L)
   unfolding passes-15 counter-places
-  passes-15-at = any-map (counter-place t L) (λ i. ltb 15 (getD counters i 0 + hits t L p i)) (positions t L p) ∙ simp hits-at
+  passes-15-at = any-map (counter-place t L) (λ i. ltb 15 (getD counters i 0 + hits t p L i)) (positions t p L) ∙ simp hits-at
 
-  pub runs-short-at : runs-short t counters L p ≡ any (λ j. ltb (getD counters (counter-place t L j) 0) (count j (positions t L p))) (positions t L p)
+  pub runs-short-at : runs-short t counters p L ≡ any (λ j. ltb (getD counters (counter-place t L j) 0) (count j (positions t p L))) (positions t p L)
   unfolding runs-short counter-places
-  runs-short-at = any-map (counter-place t L) (λ i. ltb (getD counters i 0) (hits t L p i)) (positions t L p) ∙ simp hits-at
+  runs-short-at = any-map (counter-place t L) (λ i. ltb (getD counters i 0) (hits t p L i)) (positions t p L) ∙ simp hits-at
 
-  pub claims-at : claims t counters L p ≡ all (λ j. ltb 0 (getD counters (counter-place t L j) 0)) (positions t L p)
+  pub claims-at : claims t counters p L ≡ all (λ j. ltb 0 (getD counters (counter-place t L j) 0)) (positions t p L)
   unfolding claims counter-places
-  claims-at = all-map (counter-place t L) (λ i. ltb 0 (getD counters i 0)) (positions t L p)
+  claims-at = all-map (counter-place t L) (λ i. ltb 0 (getD counters i 0)) (positions t p L)

@@ -9,7 +9,7 @@ use lib.ListN.{set}
 use lib.Seq.{set-getD}
 use borrow.Author.Tests.{eqb-true, eq-eqb, ne-eqb, le-ltb}
 use Rattle.rules.specs.declared.Settings.{Settings}
-use Rattle.rules.specs.Table.{Memory, lent, left, default-word, prefix-word, mark-word, mark-of, slot-number, mark-at, prefix-at, default-mark, occupied, holds, held, vacant, is-some, stored, refuse, from-1, needs-slot, full, passes-15, runs-short, route-refusal, update, with-slot, with-default, with-found, counter-places, step-each, add-refusal, withdraw-refusal, change-refusal, added, withdrawn, changed, add, withdraw, change}
+use Rattle.rules.specs.Table.{Memory, lent, left, default-word, prefix-word, mark-word, mark-of, slot-number, mark-at, prefix-at, default-mark, occupied, holds, held, vacant, is-some, stored, refuse, from-1, needs-slot, full, passes-15, runs-short, route-refusal, unless-refused, with-slot, with-default, with-found, counter-places, step-each, add-refusal, withdraw-refusal, change-refusal, added, withdrawn, changed, add, withdraw, change}
 use Rattle.rules.proofs.Members.{both}
 use Rattle.rules.proofs.Lowest.{some-lowest}
 use Rattle.rules.proofs.Found.{InBucket}
@@ -17,12 +17,12 @@ use Rattle.rules.proofs.Refusals.{RouteFitted, HopFitted, route-fits, r
 
 -- ---- Which prefixes need a slot
 
-module _ (t : Settings) (slots : List ℕ) (L p : ℕ) where
-  pub default-in-place : L ≡ 0 → needs-slot t slots L p ≡ false
+module _ (t : Settings) (slots : List ℕ) (p L : ℕ) where
+  pub default-in-place : L ≡ 0 → needs-slot t slots p L ≡ false
   unfolding needs-slot from-1
   default-in-place z = rw (eq-eqb L 0 z)
 
-  pub stored-in-place : stored t slots L p ≡ true → needs-slot t slots L p ≡ false
+  pub stored-in-place : stored t slots p L ≡ true → needs-slot t slots p L ≡ false
   unfolding needs-slot from-1
   stored-in-place there = rw there (go (eqb L 0))
     where
@@ -30,24 +30,24 @@ module _ (t : Settings) (slots : List ℕ) (L p : ℕ) where
       go true = refl
       go false = refl
 
-  pub new-needs-slot : (L ≡ 0 → ⊥) → stored t slots L p ≡ false → needs-slot t slots L p ≡ true
+  pub new-needs-slot : (L ≡ 0 → ⊥) → stored t slots p L ≡ false → needs-slot t slots p L ≡ true
   unfolding needs-slot from-1
   new-needs-slot up fresh = rw (ne-eqb L 0 up, fresh)
 
 -- a prefix with a slot of its own is stored
-pub held-is-stored : (t : Settings) (slots : List ℕ) (L p : ℕ) → (L ≡ 0 → ⊥) → (s : ℕ) → held t slots L p ≡ some s → stored t slots L p ≡ true
+pub held-is-stored : (t : Settings) (slots : List ℕ) (p L : ℕ) → (L ≡ 0 → ⊥) → (s : ℕ) → held t slots p L ≡ some s → stored t slots p L ≡ true
 unfolding stored is-some
-held-is-stored t slots L p up s there = rw (ne-eqb L 0 up, there)
+held-is-stored t slots p L up s there = rw (ne-eqb L 0 up, there)
 
 -- ---- What an update leaves, past its checks
 
 module _ (t : Settings) (m : Memory) (p L hop : ℕ) where
-  pub added-slot : needs-slot t (m .slots) L p ≡ true → (s : ℕ) → vacant t (m .slots) L p ≡ some s
-      → added t m p L hop ≡ lent (step-each (λ n. n + 1) (m .counters) (counter-places t L p)) (with-slot (m .slots) (slot-number t L p s) p (mark-of hop))
+  pub added-slot : needs-slot t (m .slots) p L ≡ true → (s : ℕ) → vacant t (m .slots) p L ≡ some s
+      → added t m p L hop ≡ lent (step-each (λ n. n + 1) (m .counters) (counter-places t p L)) (with-slot (m .slots) (slot-number t p L s) p (mark-of hop))
   unfolding added with-found
   added-slot needed s there = rw (needed, there)
 
-  pub added-in-place : needs-slot t (m .slots) L p ≡ false → added t m p L hop ≡ changed t m p L hop
+  pub added-in-place : needs-slot t (m .slots) p L ≡ false → added t m p L hop ≡ changed t m p L hop
   unfolding added
   added-in-place place = rw place
 
@@ -55,34 +55,34 @@ module _ (t : Settings) (m : Memory) (p L hop : ℕ) where
   unfolding changed with-default
   changed-default z = rw (eq-eqb L 0 z)
 
-  pub changed-slot : (L ≡ 0 → ⊥) → (s : ℕ) → held t (m .slots) L p ≡ some s
-      → changed t m p L hop ≡ lent (m .counters) (with-slot (m .slots) (slot-number t L p s) p (mark-of hop))
+  pub changed-slot : (L ≡ 0 → ⊥) → (s : ℕ) → held t (m .slots) p L ≡ some s
+      → changed t m p L hop ≡ lent (m .counters) (with-slot (m .slots) (slot-number t p L s) p (mark-of hop))
   unfolding changed with-found
   changed-slot up s there = rw (ne-eqb L 0 up, there)
 
   -- of the words, only the mark changes
-  pub changed-mark : (L ≡ 0 → ⊥) → (s : ℕ) → held t (m .slots) L p ≡ some s
-      → changed t m p L hop ≡ lent (m .counters) (set (m .slots) (mark-word (slot-number t L p s)) (mark-of hop))
+  pub changed-mark : (L ≡ 0 → ⊥) → (s : ℕ) → held t (m .slots) p L ≡ some s
+      → changed t m p L hop ≡ lent (m .counters) (set (m .slots) (mark-word (slot-number t p L s)) (mark-of hop))
   unfolding held holds prefix-at with-slot
   changed-mark up s lowest =
-      let its-prefix = eqb-true _ p (both (occupied (mark-at (m .slots) (slot-number t L p s))) _ (some-lowest (holds t (m .slots) L p) (t .s) s lowest .passes) .1) in
+      let its-prefix = eqb-true _ p (both (occupied (mark-at (m .slots) (slot-number t p L s))) _ (some-lowest (holds t (m .slots) p L) (t .s) s lowest .passes) .1) in
       changed-slot up s lowest
-      ∙ ap (λ slots. lent (m .counters) (set slots (mark-word (slot-number t L p s)) (mark-of hop)))
-      (ap (set (m .slots) (prefix-word (slot-number t L p s))) (sym its-prefix) ∙ set-getD (m .slots) (prefix-word (slot-number t L p s)) 0)
+      ∙ ap (λ slots. lent (m .counters) (set slots (mark-word (slot-number t p L s)) (mark-of hop)))
+      (ap (set (m .slots) (prefix-word (slot-number t p L s))) (sym its-prefix) ∙ set-getD (m .slots) (prefix-word (slot-number t p L s)) 0)
 
   pub changed-counters : changed t m p L hop .counters ≡ m .counters
   unfolding changed with-default
-  changed-counters = go (eqb L 0) (with-found t (m .slots) L p (held t (m .slots) L p) p (mark-of hop))
+  changed-counters = go (eqb L 0) (with-found t (m .slots) p L (held t (m .slots) p L) p (mark-of hop))
     where
       go : (default : Bool) (slots : List ℕ) → cond default (with-default t m (mark-of hop)) (lent (m .counters) slots) .counters ≡ m .counters
       go true slots = refl
       go false slots = refl
 
   -- so an add of a stored prefix is a change, whatever the memory holds
-  pub add-is-change : stored t (m .slots) L p ≡ true → add t m p L hop ≡ change t m p L hop
+  pub add-is-change : stored t (m .slots) p L ≡ true → add t m p L hop ≡ change t m p L hop
   unfolding add change add-refusal change-refusal refuse
   add-is-change there =
-      let place = stored-in-place t (m .slots) L p there in
+      let place = stored-in-place t (m .slots) p L there in
       rw (added-in-place place, place, there)
 
 module _ (t : Settings) (m : Memory) (p L : ℕ) where
@@ -90,114 +90,114 @@ module _ (t : Settings) (m : Memory) (p L : ℕ) where
   unfolding withdrawn with-default
   withdrawn-default z = rw (eq-eqb L 0 z)
 
-  pub withdrawn-slot : (L ≡ 0 → ⊥) → (s : ℕ) → held t (m .slots) L p ≡ some s
-      → withdrawn t m p L ≡ lent (step-each (λ n. n - 1) (m .counters) (counter-places t L p)) (with-slot (m .slots) (slot-number t L p s) 0 0)
+  pub withdrawn-slot : (L ≡ 0 → ⊥) → (s : ℕ) → held t (m .slots) p L ≡ some s
+      → withdrawn t m p L ≡ lent (step-each (λ n. n - 1) (m .counters) (counter-places t p L)) (with-slot (m .slots) (slot-number t p L s) 0 0)
   unfolding withdrawn with-found
   withdrawn-slot up s there = rw (ne-eqb L 0 up, there)
 
 -- ---- How each update ends at its first checks
 
-module _ (t : Settings) (counters slots : List ℕ) (L p : ℕ) {given : ℕ} (bad : given ≡ 0 → ⊥) where
-  pub withdraw-refused : given ≡ route-refusal t (lent counters slots) L p 0 → withdraw t (lent counters slots) p L ≡ left given counters slots
+module _ (t : Settings) (counters slots : List ℕ) (p L : ℕ) {given : ℕ} (bad : given ≡ 0 → ⊥) where
+  pub withdraw-refused : given ≡ route-refusal t (lent counters slots) p L 0 → withdraw t (lent counters slots) p L ≡ left given counters slots
   unfolding withdraw withdraw-refusal
-  withdraw-refused e = refused-by (withdraw-refusal t (lent counters slots) p L) _ _ (stopped (route-passing t (lent counters slots) L p) e bad _) bad
+  withdraw-refused e = refused-by (withdraw-refusal t (lent counters slots) p L) _ _ (stopped (route-passing t (lent counters slots) p L) e bad _) bad
 
-  module _ (hop : ℕ) (e : given ≡ route-refusal t (lent counters slots) L p (refuse (ltb 65535 hop) 5 0)) where
+  module _ (hop : ℕ) (e : given ≡ route-refusal t (lent counters slots) p L (refuse (ltb 65535 hop) 5 0)) where
     pub change-refused : change t (lent counters slots) p L hop ≡ left given counters slots
     unfolding change change-refusal
-    change-refused = refused-by (change-refusal t (lent counters slots) p L hop) _ _ (stopped (hop-passing t (lent counters slots) L p hop) e bad _) bad
+    change-refused = refused-by (change-refusal t (lent counters slots) p L hop) _ _ (stopped (hop-passing t (lent counters slots) p L hop) e bad _) bad
 
     pub add-refused : add t (lent counters slots) p L hop ≡ left given counters slots
     unfolding add add-refusal
-    add-refused = refused-by (add-refusal t (lent counters slots) p L hop) _ _ (stopped (hop-passing t (lent counters slots) L p hop) e bad _) bad
+    add-refused = refused-by (add-refusal t (lent counters slots) p L hop) _ _ (stopped (hop-passing t (lent counters slots) p L hop) e bad _) bad
 
 -- ---- How a withdrawal ends, past 1 to 4
 
-module _ {t : Settings} {counters slots : List ℕ} {L p : ℕ} (fit : RouteFitted t counters slots L p) where
+module _ {t : Settings} {counters slots : List ℕ} {p L : ℕ} (fit : RouteFitted t counters slots p L) where
   pub withdraw-at-0 : L ≡ 0 → withdraw t (lent counters slots) p L
-      ≡ update (refuse (not (occupied (default-mark t slots))) 7 0) (with-default t (lent counters slots) 0) (lent counters slots)
+      ≡ unless-refused (refuse (not (occupied (default-mark t slots))) 7 0) (with-default t (lent counters slots) 0) (lent counters slots)
   unfolding withdraw withdraw-refusal stored from-1 refuse withdrawn
-  withdraw-at-0 z = rw (route-fits t counters slots L p fit, eq-eqb L 0 z)
+  withdraw-at-0 z = rw (route-fits t counters slots p L fit, eq-eqb L 0 z)
 
   module _ (up : L ≡ 0 → ⊥) where
     withdraw-number : withdraw-refusal t (lent counters slots) p L
-        ≡ refuse (not (is-some (held t slots L p))) 7 (refuse (runs-short t counters L p) 10 0)
+        ≡ refuse (not (is-some (held t slots p L))) 7 (refuse (runs-short t counters p L) 10 0)
     unfolding withdraw-refusal stored from-1
-    withdraw-number = route-fits t counters slots L p fit _ ∙ rw (ne-eqb L 0 up)
+    withdraw-number = route-fits t counters slots p L fit _ ∙ rw (ne-eqb L 0 up)
 
-    pub withdraw-absent : held t slots L p ≡ none → withdraw t (lent counters slots) p L ≡ left 7 counters slots
-    unfolding withdraw update refuse is-some
+    pub withdraw-absent : held t slots p L ≡ none → withdraw t (lent counters slots) p L ≡ left 7 counters slots
+    unfolding withdraw unless-refused refuse is-some
     withdraw-absent nowhere = rw (withdraw-number, nowhere)
 
-    module _ {slot : ℕ} (at : InBucket t L p (held t slots L p) slot) where
-      pub withdraw-short : runs-short t counters L p ≡ true → withdraw t (lent counters slots) p L ≡ left 10 counters slots
-      unfolding withdraw update refuse is-some
+    module _ {slot : ℕ} (at : InBucket t p L (held t slots p L) slot) where
+      pub withdraw-short : runs-short t counters p L ≡ true → withdraw t (lent counters slots) p L ≡ left 10 counters slots
+      unfolding withdraw unless-refused refuse is-some
       withdraw-short short = rw (withdraw-number, at .there, short)
 
-      pub withdraw-slot : runs-short t counters L p ≡ false → withdraw t (lent counters slots) p L
-          ≡ left 0 (step-each (λ n. n - 1) counters (counter-places t L p)) (with-slot slots slot 0 0)
-      unfolding withdraw update refuse is-some
+      pub withdraw-slot : runs-short t counters p L ≡ false → withdraw t (lent counters slots) p L
+          ≡ left 0 (step-each (λ n. n - 1) counters (counter-places t p L)) (with-slot slots slot 0 0)
+      unfolding withdraw unless-refused refuse is-some
       withdraw-slot enough =
           rw (withdraw-number, at .number, withdrawn-slot t (lent counters slots) p L up (at .s) (at .there), at .there, enough)
 
 -- ---- How a change and an add end, past 1 to 5
 
-module _ {t : Settings} {counters slots : List ℕ} {L p hop : ℕ} (fit : HopFitted t counters slots L p hop) where
+module _ {t : Settings} {counters slots : List ℕ} {p L hop : ℕ} (fit : HopFitted t counters slots p L hop) where
   pub change-at-0 : L ≡ 0 → change t (lent counters slots) p L hop
-      ≡ update (refuse (not (occupied (default-mark t slots))) 7 0) (with-default t (lent counters slots) (hop + 1)) (lent counters slots)
+      ≡ unless-refused (refuse (not (occupied (default-mark t slots))) 7 0) (with-default t (lent counters slots) (hop + 1)) (lent counters slots)
   unfolding change change-refusal stored refuse changed mark-of
-  change-at-0 z = rw (route-fits t counters slots L p (fit .route), le-ltb _ _ (fit .small), eq-eqb L 0 z)
+  change-at-0 z = rw (route-fits t counters slots p L (fit .route), le-ltb _ _ (fit .small), eq-eqb L 0 z)
 
-  add-in-place : needs-slot t slots L p ≡ false → add t (lent counters slots) p L hop ≡ record { refusal = 0; memory = changed t (lent counters slots) p L hop }
-  unfolding add add-refusal refuse update
+  add-in-place : needs-slot t slots p L ≡ false → add t (lent counters slots) p L hop ≡ record { refusal = 0; memory = changed t (lent counters slots) p L hop }
+  unfolding add add-refusal refuse unless-refused
   add-in-place place =
-      rw (route-fits t counters slots L p (fit .route), le-ltb _ _ (fit .small), added-in-place t (lent counters slots) p L hop place, place)
+      rw (route-fits t counters slots p L (fit .route), le-ltb _ _ (fit .small), added-in-place t (lent counters slots) p L hop place, place)
 
   pub add-at-0 : L ≡ 0 → add t (lent counters slots) p L hop ≡ left 0 counters (set slots (default-word t) (hop + 1))
   unfolding mark-of
-  add-at-0 z = add-in-place (default-in-place t slots L p z) ∙ rw (changed-default t (lent counters slots) p L hop z)
+  add-at-0 z = add-in-place (default-in-place t slots p L z) ∙ rw (changed-default t (lent counters slots) p L hop z)
 
   module _ (up : L ≡ 0 → ⊥) where
-    change-number : change-refusal t (lent counters slots) p L hop ≡ refuse (not (is-some (held t slots L p))) 7 0
+    change-number : change-refusal t (lent counters slots) p L hop ≡ refuse (not (is-some (held t slots p L))) 7 0
     unfolding change-refusal stored refuse
-    change-number = route-fits t counters slots L p (fit .route) _ ∙ rw (le-ltb _ _ (fit .small), ne-eqb L 0 up)
+    change-number = route-fits t counters slots p L (fit .route) _ ∙ rw (le-ltb _ _ (fit .small), ne-eqb L 0 up)
 
-    pub change-absent : held t slots L p ≡ none → change t (lent counters slots) p L hop ≡ left 7 counters slots
-    unfolding change update refuse is-some
+    pub change-absent : held t slots p L ≡ none → change t (lent counters slots) p L hop ≡ left 7 counters slots
+    unfolding change unless-refused refuse is-some
     change-absent nowhere = rw (change-number, nowhere)
 
-    pub change-slot : {slot : ℕ} → InBucket t L p (held t slots L p) slot → change t (lent counters slots) p L hop
+    pub change-slot : {slot : ℕ} → InBucket t p L (held t slots p L) slot → change t (lent counters slots) p L hop
         ≡ left 0 counters (with-slot slots slot p (hop + 1))
-    unfolding change update refuse is-some mark-of
+    unfolding change unless-refused refuse is-some mark-of
     change-slot at = rw (change-number, at .number, changed-slot t (lent counters slots) p L hop up (at .s) (at .there), at .there)
 
-    pub add-stored : {slot : ℕ} → InBucket t L p (held t slots L p) slot → add t (lent counters slots) p L hop
+    pub add-stored : {slot : ℕ} → InBucket t p L (held t slots p L) slot → add t (lent counters slots) p L hop
         ≡ left 0 counters (with-slot slots slot p (hop + 1))
     unfolding mark-of
     add-stored at =
-        add-in-place (stored-in-place t slots L p (held-is-stored t slots L p up (at .s) (at .there)))
+        add-in-place (stored-in-place t slots p L (held-is-stored t slots p L up (at .s) (at .there)))
         ∙ rw (changed-slot t (lent counters slots) p L hop up (at .s) (at .there), at .number)
 
-    module _ (fresh : held t slots L p ≡ none) where
-      needed : needs-slot t slots L p ≡ true
+    module _ (fresh : held t slots p L ≡ none) where
+      needed : needs-slot t slots p L ≡ true
       unfolding stored is-some
-      needed = new-needs-slot t slots L p up (rw (ne-eqb L 0 up, fresh))
+      needed = new-needs-slot t slots p L up (rw (ne-eqb L 0 up, fresh))
 
-      add-number : add-refusal t (lent counters slots) p L hop ≡ refuse (full t slots L p) 8 (refuse (passes-15 t counters L p) 9 0)
+      add-number : add-refusal t (lent counters slots) p L hop ≡ refuse (full t slots p L) 8 (refuse (passes-15 t counters p L) 9 0)
       unfolding add-refusal refuse
-      add-number = route-fits t counters slots L p (fit .route) _ ∙ rw (le-ltb _ _ (fit .small), needed)
+      add-number = route-fits t counters slots p L (fit .route) _ ∙ rw (le-ltb _ _ (fit .small), needed)
 
-      pub add-full : vacant t slots L p ≡ none → add t (lent counters slots) p L hop ≡ left 8 counters slots
-      unfolding add update refuse is-some full
+      pub add-full : vacant t slots p L ≡ none → add t (lent counters slots) p L hop ≡ left 8 counters slots
+      unfolding add unless-refused refuse is-some full
       add-full nowhere = rw (add-number, nowhere)
 
-      module _ {slot : ℕ} (at : InBucket t L p (vacant t slots L p) slot) where
-        pub add-past-15 : passes-15 t counters L p ≡ true → add t (lent counters slots) p L hop ≡ left 9 counters slots
-        unfolding add update refuse is-some full
+      module _ {slot : ℕ} (at : InBucket t p L (vacant t slots p L) slot) where
+        pub add-past-15 : passes-15 t counters p L ≡ true → add t (lent counters slots) p L hop ≡ left 9 counters slots
+        unfolding add unless-refused refuse is-some full
         add-past-15 passes = rw (add-number, at .there, passes)
 
-        pub add-slot : passes-15 t counters L p ≡ false → add t (lent counters slots) p L hop
-            ≡ left 0 (step-each (λ n. n + 1) counters (counter-places t L p)) (with-slot slots slot p (hop + 1))
-        unfolding add update refuse is-some full mark-of
+        pub add-slot : passes-15 t counters p L ≡ false → add t (lent counters slots) p L hop
+            ≡ left 0 (step-each (λ n. n + 1) counters (counter-places t p L)) (with-slot slots slot p (hop + 1))
+        unfolding add unless-refused refuse is-some full mark-of
         add-slot level =
             rw (add-number, at .number, added-slot t (lent counters slots) p L hop needed (at .s) (at .there), at .there, level)

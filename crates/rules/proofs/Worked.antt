@@ -8,7 +8,7 @@ use lib.ListN.{getD, length, replicate, set}
 use Rattle.rules.specs.declared.Settings.{Settings}
 use Rattle.rules.specs.declared.Answer.{Answer}
 use Rattle.rules.specs.Tools.{within, all, any, count, those, lowest}
-use Rattle.rules.specs.Table.{list-in-range, in-range, wrap, prefix, steps, filter-bits, positions, bucket, Memory, filters-size, counters-size, filter-start, counter-place, counter-places, slots-size, slot-number, prefix-word, mark-word, default-word, occupied, mark-of, hop-of, mark-at, prefix-at, default-mark, holds, free, held, vacant, is-some, stored, refuse, sized, loose, full, hits, passes-15, runs-short, from-1, needs-slot, memory-refusal, route-refusal, add-refusal, withdraw-refusal, change-refusal, Update, update, zeroed, step-each, with-slot, with-default, with-found, added, withdrawn, changed, clear, add, withdraw, change, claims, bits-where, vector-of, match-vector, down-from, bit-set, set-bits, search, route-answer, default-answer, place-answer, refused, answer-of, lookup, one-if, answer-words, list-words, Listed, listed, fourfold, list-refusal, lookup-list, whole-words, words, answer-number, vector-number, c-lookup, c-match-vector, bytes-of, c-list-refusal, c-lookup-list}
+use Rattle.rules.specs.Table.{list-in-range, in-range, wrap, prefix, steps, filter-bits, positions, bucket, Memory, filters-size, counters-size, filter-start, counter-place, counter-places, slots-size, slot-number, prefix-word, mark-word, default-word, occupied, mark-of, hop-of, mark-at, prefix-at, default-mark, holds, free, held, vacant, is-some, stored, refuse, sized, loose, full, hits, passes-15, runs-short, from-1, needs-slot, memory-refusal, route-refusal, add-refusal, withdraw-refusal, change-refusal, Outcome, unless-refused, zeroed, step-each, with-slot, with-default, with-found, added, withdrawn, changed, clear, add, withdraw, change, claims, bits-where, vector-of, match-vector, down-from, bit-set, set-bits, search, route-answer, default-answer, place-answer, refused, answer-of, lookup, one-if, answer-words, list-words, Listed, listed, fourfold, list-refusal, lookup-list, whole-words, words, answer-number, vector-number, c-lookup, c-match-vector, bytes-of, c-list-refusal, c-lookup-list}
 
 -- an address or a prefix by its four octets
 abbrev pub ip : (a b c d : ℕ) → ℕ
@@ -45,7 +45,7 @@ ten-eight = add T ten (ip 8 0 0 0) 8 5 .memory
 abbrev eight-gone : Memory
 eight-gone = withdraw T ten-eight (ip 8 0 0 0) 8 .memory
 
-abbrev nine-again : Update
+abbrev nine-again : Outcome
 nine-again = add T eight-gone (ip 9 0 0 0) 8 6
 
 -- routes of lengths 32, 31 and 1
@@ -76,34 +76,34 @@ hosts t zero = empty t
 hosts t (suc n) = add t (hosts t n) (suc n) 32 1 .memory
 
 -- the tables of P4, P8 and P7, each with a stored route added again, with another hop
-abbrev ten-again : Update
+abbrev ten-again : Outcome
 ten-again = add T ten (ip 10 0 0 0) 8 8
 
-abbrev eight-again : Update
+abbrev eight-again : Outcome
 eight-again = add T ten-eight (ip 8 0 0 0) 8 6
 
-abbrev default-again : Update
+abbrev default-again : Outcome
 default-again = add T ten-one-default 0 0 4
 
 -- the table of P8 with 10/8 withdrawn, so that the slot before that of 8/8 is free, and 8/8 added again
 abbrev before-it-free : Memory
 before-it-free = withdraw T ten-eight (ip 10 0 0 0) 8 .memory
 
-abbrev past-free : Update
+abbrev past-free : Outcome
 past-free = add T before-it-free (ip 8 0 0 0) 8 6
 
 -- the table of P9, whose counter is at 15, and that of P10 with S 1, whose bucket is full too, with a route added again
-abbrev at-15 : Update
+abbrev at-15 : Outcome
 at-15 = add (Z 5 4) (hosts (Z 5 4) 3) 2 32 4
 
-abbrev full-at-15 : Update
+abbrev full-at-15 : Outcome
 full-at-15 = add (Z 8 1) (hosts (Z 8 1) 1) 1 32 4
 
 -- damaged memory: 10/8 stands in both slots of its bucket, and no counter tells of it; 10/8 added again
 abbrev twice : Memory
 twice = record { counters = empty T .counters; slots = set (set (ten .slots) 58 (ip 10 0 0 0)) 59 6 }
 
-abbrev lowest-again : Update
+abbrev lowest-again : Outcome
 lowest-again = add T twice (ip 10 0 0 0) 8 8
 
 -- so many sevens
@@ -119,7 +119,7 @@ abbrev X : Settings
 X = filtered ((5 ∷ replicate 14 4) ++ (5 ∷ replicate 7 4) ++ (7 ∷ replicate 7 4) ++ 6 ∷ [])
 
 -- routes of lengths 24 and 8, of which the first is alone before
-abbrev branch : Settings → Update
+abbrev branch : Settings → Outcome
 branch t = add t (empty t) (ip 10 1 2 0) 24 5
 
 abbrev branch-ten : Settings → Memory
@@ -141,7 +141,7 @@ abbrev bytes-at : Memory → (places : List ℕ) → List ℕ
 bytes-at m = map (λ i. getD (m .counters) i 0)
 
 -- an update's number, and all that it leaves, the counters first
-abbrev written : Update → List ℕ
+abbrev written : Outcome → List ℕ
 written u = u .refusal ∷ u .memory .counters ++ u .memory .slots
 
 -- an accepted update that changes one word, and what it changes it to
@@ -187,13 +187,13 @@ case gives says = record { gives = gives; says = says }
 worked : List Case
 worked =
     -- P1: 10.0.0.0/8 has positions 0 and 1, and bucket 0
-    case (positions T 8 (ip 10 0 0 0)) (0 ∷ 1 ∷ [])
+    case (positions T (ip 10 0 0 0) 8) (0 ∷ 1 ∷ [])
     ∷ case (bucket T (ip 10 0 0 0) ∷ []) (0 ∷ [])
     -- P2: 192.0.0.0/8 has positions 12 and 4, and bucket 1
-    ∷ case (positions T 8 (ip 192 0 0 0)) (12 ∷ 4 ∷ [])
+    ∷ case (positions T (ip 192 0 0 0) 8) (12 ∷ 4 ∷ [])
     ∷ case (bucket T (ip 192 0 0 0) ∷ []) (1 ∷ [])
     -- P3: 0.0.0.0/8 has position 0 twice, and its add raises that counter by 2
-    ∷ case (positions T 8 0) (0 ∷ 0 ∷ [])
+    ∷ case (positions T 0 8) (0 ∷ 0 ∷ [])
     ∷ case (getD (add T (empty T) 0 8 7 .memory .counters) (counter-place T 8 0) 0 ∷ []) (2 ∷ [])
     -- P4: 10/8 alone: 8.1.2.3 gives none after 1 probe, with vector 128
     ∷ case (figures (lookup T ten (ip 8 1 2 3))) (none-after 1)
@@ -209,7 +209,7 @@ worked =
     -- P8: 10/8 and 8/8 fill a bucket, and 9/8 gets 8; with 8/8 withdrawn 10/8 is still found, and 9/8 goes into slot 1
     ∷ case (add T ten-eight (ip 9 0 0 0) 8 6 .refusal ∷ []) (8 ∷ [])
     ∷ case (figures (lookup T eight-gone (ip 10 2 2 3))) (finds 7 8 1)
-    ∷ case (nine-again .refusal ∷ prefix-at (nine-again .memory .slots) (slot-number T 8 (ip 9 0 0 0) 1) ∷ mark-at (nine-again .memory .slots) (slot-number T 8 (ip 9 0 0 0) 1) ∷ []) (0 ∷ ip 9 0 0 0 ∷ 7 ∷ [])
+    ∷ case (nine-again .refusal ∷ prefix-at (nine-again .memory .slots) (slot-number T (ip 9 0 0 0) 8 1) ∷ mark-at (nine-again .memory .slots) (slot-number T (ip 9 0 0 0) 8 1) ∷ []) (0 ∷ ip 9 0 0 0 ∷ 7 ∷ [])
     -- P9: K 5, D 4, E 0, S 4, multipliers 0: three /32 routes bring the counter to 15, and a fourth gets 9
     ∷ case (getD (hosts (Z 5 4) 3 .counters) (counter-place (Z 5 4) 32 0) 0 ∷ []) (15 ∷ [])
     ∷ case (add (Z 5 4) (hosts (Z 5 4) 3) 4 32 1 .refusal ∷ []) (9 ∷ [])
@@ -246,7 +246,7 @@ refusals =
     -- a counter below its hits gets 10: the slot is there, and the counters are all zero
     ∷ case (withdraw T (record { counters = empty T .counters; slots = ten .slots }) (ip 10 0 0 0) 8 .refusal ∷ []) (10 ∷ [])
     -- a mark of 65,537 is free
-    ∷ case (figures (lookup T (record { counters = ten .counters; slots = set (ten .slots) (mark-word (slot-number T 8 (ip 10 0 0 0) 0)) 65537 }) (ip 10 2 2 3))) (none-after 1)
+    ∷ case (figures (lookup T (record { counters = ten .counters; slots = set (ten .slots) (mark-word (slot-number T (ip 10 0 0 0) 8 0)) 65537 }) (ip 10 2 2 3))) (none-after 1)
     ∷ []
 
 -- what two routes share, and the numbers as they cross to C
@@ -254,18 +254,18 @@ further : List Case
 further =
     -- W1: 10.1/16 has positions 24, 53 and 17, and 10.3/16 has 21, 23 and 24: with both stored counter 24 is 2, and
     -- with 10.3/16 withdrawn it is 1
-    case (positions U 16 (ip 10 1 0 0) ++ positions U 16 (ip 10 3 0 0)) (24 ∷ 53 ∷ 17 ∷ 21 ∷ 23 ∷ 24 ∷ [])
+    case (positions U (ip 10 1 0 0) 16 ++ positions U (ip 10 3 0 0) 16) (24 ∷ 53 ∷ 17 ∷ 21 ∷ 23 ∷ 24 ∷ [])
     ∷ case (counters-at sharing (17 ∷ 21 ∷ 23 ∷ 24 ∷ 53 ∷ [])) (1 ∷ 1 ∷ 1 ∷ 2 ∷ 1 ∷ [])
     ∷ case (counters-at three-gone (17 ∷ 21 ∷ 23 ∷ 24 ∷ 53 ∷ [])) (1 ∷ 0 ∷ 0 ∷ 1 ∷ 1 ∷ [])
     -- so 10.1.2.3 is found at length 16 as before, and 10.3.2.3 now at length 8
     ∷ case (figures (lookup U sharing (ip 10 1 2 3)) ++ figures (lookup U three-gone (ip 10 1 2 3))) (finds 9 16 1 ++ finds 9 16 1)
     ∷ case (figures (lookup U sharing (ip 10 3 2 3)) ++ figures (lookup U three-gone (ip 10 3 2 3))) (finds 4 16 1 ++ finds 7 8 1)
     -- W2: 28.105/16 has positions 17, 21 and 24, of which neither route has all: a probe while both are stored, none after
-    ∷ case (positions U 16 (ip 28 105 0 0)) (17 ∷ 21 ∷ 24 ∷ [])
+    ∷ case (positions U (ip 28 105 0 0) 16) (17 ∷ 21 ∷ 24 ∷ [])
     ∷ case (figures (lookup U sharing (ip 28 105 0 1)) ++ figures (lookup U three-gone (ip 28 105 0 1))) (none-after 1 ++ none-after 0)
     ∷ case (match-vector U sharing (ip 28 105 0 1) .vector ∷ match-vector U three-gone (ip 28 105 0 1) .vector ∷ []) (32768 ∷ 0 ∷ [])
     -- W3: 10.27/16 has positions 47, 48 and 48, and 10.12/16 has 39, 48 and 57: counter 48 goes from 3 to 1
-    ∷ case (positions U 16 (ip 10 27 0 0) ++ positions U 16 (ip 10 12 0 0)) (47 ∷ 48 ∷ 48 ∷ 39 ∷ 48 ∷ 57 ∷ [])
+    ∷ case (positions U (ip 10 27 0 0) 16 ++ positions U (ip 10 12 0 0) 16) (47 ∷ 48 ∷ 48 ∷ 39 ∷ 48 ∷ 57 ∷ [])
     ∷ case (counters-at doubled (39 ∷ 47 ∷ 48 ∷ 57 ∷ [])) (1 ∷ 1 ∷ 3 ∷ 1 ∷ [])
     ∷ case (counters-at doubled-gone (39 ∷ 47 ∷ 48 ∷ 57 ∷ [])) (1 ∷ 0 ∷ 1 ∷ 1 ∷ [])
     -- W4: the answer of P5, the vector of P6, the word of 10.0.0.0 and a refusal, as they cross to C
@@ -333,7 +333,7 @@ replaced =
 downwards : List Case
 downwards =
     -- W9: the prefixes of 10.1.2.3, before and after each bit that it loses
-    case (map (λ L. prefix L (ip 10 1 2 3)) (32 ∷ 31 ∷ 30 ∷ 23 ∷ 22 ∷ 16 ∷ 15 ∷ 7 ∷ 6 ∷ 5 ∷ 4 ∷ 1 ∷ []))
+    case (map (λ L. prefix (ip 10 1 2 3) L) (32 ∷ 31 ∷ 30 ∷ 23 ∷ 22 ∷ 16 ∷ 15 ∷ 7 ∷ 6 ∷ 5 ∷ 4 ∷ 1 ∷ []))
     (ip 10 1 2 3 ∷ ip 10 1 2 2 ∷ ip 10 1 2 0 ∷ ip 10 1 2 0 ∷ ip 10 1 0 0 ∷ ip 10 1 0 0 ∷ ip 10 0 0 0 ∷ ip 10 0 0 0 ∷ ip 8 0 0 0 ∷ ip 8 0 0 0 ∷ 0 ∷ 0 ∷ [])
     -- claimed at 32, 31 and 1: 2^31 + 2^30 + 1
     ∷ case (match-vector T both-ends (ip 10 1 2 3) .vector ∷ []) (3221225473 ∷ [])
@@ -351,13 +351,13 @@ unequal =
     case (counters-size X ∷ map (filter-start X) (1 ∷ 2 ∷ 16 ∷ 17 ∷ 24 ∷ 25 ∷ 32 ∷ []))
     (704 ∷ 0 ∷ 32 ∷ 256 ∷ 288 ∷ 400 ∷ 528 ∷ 640 ∷ [])
     -- 10.1.2.0 has the top 7, 4 and 6 bits of the same three numbers for its positions at lengths 24, 23 and 32
-    ∷ case (positions X 24 (ip 10 1 2 0)) (105 ∷ 13 ∷ 49 ∷ [])
-    ∷ case (positions X 23 (ip 10 1 2 0)) (13 ∷ 1 ∷ 6 ∷ [])
-    ∷ case (positions X 32 (ip 10 1 2 0)) (52 ∷ 6 ∷ 24 ∷ [])
+    ∷ case (positions X (ip 10 1 2 0) 24) (105 ∷ 13 ∷ 49 ∷ [])
+    ∷ case (positions X (ip 10 1 2 0) 23) (13 ∷ 1 ∷ 6 ∷ [])
+    ∷ case (positions X (ip 10 1 2 0) 32) (52 ∷ 6 ∷ 24 ∷ [])
     -- W11: 10.1.2/24 added to a table that holds nothing: three counters, and the words of slot 0 of bucket 0
     ∷ case (written (branch X)) (0 ∷ set (set (set (replicate 704 0) 413 1) 449 1) 505 1 ++ set (set (replicate 257 0) 184 (ip 10 1 2 0)) 185 6)
     -- 10.3.187/24 has positions 110, 15 and 48: at length 24 it is not claimed, and with D 4 everywhere it would be
-    ∷ case (positions X 24 (ip 10 3 187 0)) (110 ∷ 15 ∷ 48 ∷ [])
+    ∷ case (positions X (ip 10 3 187 0) 24) (110 ∷ 15 ∷ 48 ∷ [])
     ∷ case (figures (lookup X (branch-ten X) (ip 10 3 187 1))) (finds 7 8 1)
     ∷ case (figures (lookup (filtered (replicate 32 4)) (branch-ten (filtered (replicate 32 4))) (ip 10 3 187 1))) (finds 7 8 2)
     -- W12: the first filter and the last: 128/1 lands twice on byte 16, and 10.1.2.3/32 on bytes 683, 673 and 664
@@ -382,22 +382,22 @@ unequal =
     ∷ []
 
 -- two lists of numbers are the same
-unfoldable pub same : List ℕ → List ℕ → Bool
-same [] [] = true
-same [] (y ∷ ys) = false
-same (x ∷ xs) [] = false
-same (x ∷ xs) (y ∷ ys) = eqb x y && same xs ys
+unfoldable pub same-words : List ℕ → List ℕ → Bool
+same-words [] [] = true
+same-words [] (y ∷ ys) = false
+same-words (x ∷ xs) [] = false
+same-words (x ∷ xs) (y ∷ ys) = eqb x y && same-words xs ys
 
 -- each case comes out as it is said
 unfoldable pub come-out : List Case → Bool
 come-out [] = true
-come-out (c ∷ cs) = same (c .gives) (c .says) && come-out cs
+come-out (c ∷ cs) = same-words (c .gives) (c .says) && come-out cs
 
 -- to unfold this is to unfold all that the calls compute with
 unfoldable pub computing : ℕ
-unfolding within all any count those lowest list-in-range in-range wrap prefix steps filter-bits positions bucket filters-size counters-size filter-start counter-place counter-places slots-size slot-number prefix-word mark-word default-word occupied mark-of hop-of mark-at prefix-at default-mark holds free held vacant is-some stored refuse sized loose full hits passes-15 runs-short from-1 needs-slot memory-refusal route-refusal add-refusal withdraw-refusal change-refusal update zeroed step-each with-slot with-default with-found added withdrawn changed clear add withdraw change claims bits-where vector-of match-vector down-from bit-set set-bits search route-answer default-answer place-answer refused answer-of lookup one-if answer-words list-words listed fourfold list-refusal lookup-list whole-words words answer-number vector-number c-lookup c-match-vector bytes-of c-list-refusal c-lookup-list
+unfolding within all any count those lowest list-in-range in-range wrap prefix steps filter-bits positions bucket filters-size counters-size filter-start counter-place counter-places slots-size slot-number prefix-word mark-word default-word occupied mark-of hop-of mark-at prefix-at default-mark holds free held vacant is-some stored refuse sized loose full hits passes-15 runs-short from-1 needs-slot memory-refusal route-refusal add-refusal withdraw-refusal change-refusal unless-refused zeroed step-each with-slot with-default with-found added withdrawn changed clear add withdraw change claims bits-where vector-of match-vector down-from bit-set set-bits search route-answer default-answer place-answer refused answer-of lookup one-if answer-words list-words listed fourfold list-refusal lookup-list whole-words words answer-number vector-number c-lookup c-match-vector bytes-of c-list-refusal c-lookup-list
 computing = 0
 
 all-come-out : come-out (worked ++ refusals ++ further ++ lists ++ replaced ++ downwards ++ unequal) ≡ true
-unfolding worked refusals further lists replaced downwards unequal same come-out computing
+unfolding worked refusals further lists replaced downwards unequal same-words come-out computing
 all-come-out = refl

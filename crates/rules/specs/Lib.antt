@@ -2,3 +2,4 @@
 pub mod Tools
 pub mod Table
 pub mod Ready
+pub mod Calls

@@ -28,8 +28,8 @@ unfoldable pub wrap : ℕ → ℕ
 wrap n = n % 2 ^ 32
 
 -- the prefix of length L of an address: its last 32 − L bits are cleared
-unfoldable pub prefix : (L address : ℕ) → ℕ
-prefix L address = address / 2 ^ (32 - L) * 2 ^ (32 - L)
+unfoldable pub prefix : (address L : ℕ) → ℕ
+prefix address L = address / 2 ^ (32 - L) * 2 ^ (32 - L)
 
 -- the numbers g that double hashing goes through, so many of them: each is the last one grown, and wraps
 unfoldable pub steps : (many g growth : ℕ) → List ℕ
@@ -41,8 +41,8 @@ unfoldable pub filter-bits : Settings → (L : ℕ) → ℕ
 filter-bits t L = getD (t .d) (L - 1) 0
 
 -- the K filter positions of p at length L: the top bits of A·p, and of it grown by B·p again and again
-unfoldable pub positions : Settings → (L p : ℕ) → List ℕ
-positions t L p = map (λ g. g / 2 ^ (32 - filter-bits t L)) (steps (t .k) (wrap (t .a * p)) (wrap (t .b * p)))
+unfoldable pub positions : Settings → (p L : ℕ) → List ℕ
+positions t p L = map (λ g. g / 2 ^ (32 - filter-bits t L)) (steps (t .k) (wrap (t .a * p)) (wrap (t .b * p)))
 
 -- the bucket of p: the top E bits of C·p; with E = 0 it is bucket 0
 unfoldable pub bucket : Settings → (p : ℕ) → ℕ
@@ -77,16 +77,16 @@ unfoldable pub counter-place : Settings → (L j : ℕ) → ℕ
 counter-place t L j = filter-start t L + j
 
 -- where the K counters of p at length L lie
-unfoldable pub counter-places : Settings → (L p : ℕ) → List ℕ
-counter-places t L p = map (counter-place t L) (positions t L p)
+unfoldable pub counter-places : Settings → (p L : ℕ) → List ℕ
+counter-places t p L = map (counter-place t L) (positions t p L)
 
 -- how many words the slots take: two for each slot of 32 lengths, and the default's mark
 unfoldable pub slots-size : Settings → ℕ
 slots-size t = 64 * 2 ^ t .e * t .s + 1
 
 -- the number of slot s of p's bucket at length L
-unfoldable pub slot-number : Settings → (L p s : ℕ) → ℕ
-slot-number t L p s = ((L - 1) * 2 ^ t .e + bucket t p) * t .s + s
+unfoldable pub slot-number : Settings → (p L s : ℕ) → ℕ
+slot-number t p L s = ((L - 1) * 2 ^ t .e + bucket t p) * t .s + s
 
 -- the word with slot n's prefix
 unfoldable pub prefix-word : (n : ℕ) → ℕ
@@ -127,20 +127,20 @@ default-mark t slots = getD slots (default-word t) 0
 -- ---- What is stored
 
 -- slot s of p's bucket at length L is occupied and holds p
-unfoldable pub holds : Settings → (slots : List ℕ) (L p s : ℕ) → Bool
-holds t slots L p s = let n = slot-number t L p s in occupied (mark-at slots n) && eqb (prefix-at slots n) p
+unfoldable pub holds : Settings → (slots : List ℕ) (p L s : ℕ) → Bool
+holds t slots p L s = let n = slot-number t p L s in occupied (mark-at slots n) && eqb (prefix-at slots n) p
 
 -- slot s of p's bucket at length L is free
-unfoldable pub free : Settings → (slots : List ℕ) (L p s : ℕ) → Bool
-free t slots L p s = not (occupied (mark-at slots (slot-number t L p s)))
+unfoldable pub free : Settings → (slots : List ℕ) (p L s : ℕ) → Bool
+free t slots p L s = not (occupied (mark-at slots (slot-number t p L s)))
 
 -- the lowest slot of p's bucket that holds p, if one does
-unfoldable pub held : Settings → (slots : List ℕ) (L p : ℕ) → Option ℕ
-held t slots L p = lowest (holds t slots L p) (t .s)
+unfoldable pub held : Settings → (slots : List ℕ) (p L : ℕ) → Option ℕ
+held t slots p L = lowest (holds t slots p L) (t .s)
 
 -- the lowest free slot of the bucket
-unfoldable pub vacant : Settings → (slots : List ℕ) (L p : ℕ) → Option ℕ
-vacant t slots L p = lowest (free t slots L p) (t .s)
+unfoldable pub vacant : Settings → (slots : List ℕ) (p L : ℕ) → Option ℕ
+vacant t slots p L = lowest (free t slots p L) (t .s)
 
 -- there is such a slot
 unfoldable pub is-some : Option ℕ → Bool
@@ -148,8 +148,8 @@ is-some (some s) = true
 is-some none = false
 
 -- p of length L is stored: in a slot of its own bucket or, for length 0, in the default's word
-unfoldable pub stored : Settings → (slots : List ℕ) (L p : ℕ) → Bool
-stored t slots L p = cond (eqb L 0) (occupied (default-mark t slots)) (is-some (held t slots L p))
+unfoldable pub stored : Settings → (slots : List ℕ) (p L : ℕ) → Bool
+stored t slots p L = cond (eqb L 0) (occupied (default-mark t slots)) (is-some (held t slots p L))
 
 -- ---- Numbers given back for bad input
 
@@ -162,73 +162,73 @@ unfoldable pub sized : Settings → Memory → Bool
 sized t m = eqb (length (m .counters)) (counters-size t) && eqb (length (m .slots)) (slots-size t)
 
 -- a bit is set after the length
-unfoldable pub loose : (L p : ℕ) → Bool
-loose L p = not (eqb (prefix L p) p)
+unfoldable pub loose : (p L : ℕ) → Bool
+loose p L = not (eqb (prefix p L) p)
 
 -- a condition that only length 1 and up can meet: the default has no bucket and no filter
 unfoldable pub from-1 : (L : ℕ) → Bool → Bool
 from-1 L bad = cond (eqb L 0) false bad
 
 -- p needs a slot: not at length 0, which has none, nor where p is stored and keeps its own
-unfoldable pub needs-slot : Settings → (slots : List ℕ) (L p : ℕ) → Bool
-needs-slot t slots L p = from-1 L (not (stored t slots L p))
+unfoldable pub needs-slot : Settings → (slots : List ℕ) (p L : ℕ) → Bool
+needs-slot t slots p L = from-1 L (not (stored t slots p L))
 
 -- every slot of the bucket is occupied
-unfoldable pub full : Settings → (slots : List ℕ) (L p : ℕ) → Bool
-full t slots L p = not (is-some (vacant t slots L p))
+unfoldable pub full : Settings → (slots : List ℕ) (p L : ℕ) → Bool
+full t slots p L = not (is-some (vacant t slots p L))
 
 -- a counter's hits by p: the number of p's K steps that lead to it
-unfoldable pub hits : Settings → (L p i : ℕ) → ℕ
-hits t L p i = count i (counter-places t L p)
+unfoldable pub hits : Settings → (p L i : ℕ) → ℕ
+hits t p L i = count i (counter-places t p L)
 
 -- with p's hits added, one of p's counters would be above 15
-unfoldable pub passes-15 : Settings → (counters : List ℕ) (L p : ℕ) → Bool
-passes-15 t counters L p = any (λ i. ltb 15 (getD counters i 0 + hits t L p i)) (counter-places t L p)
+unfoldable pub passes-15 : Settings → (counters : List ℕ) (p L : ℕ) → Bool
+passes-15 t counters p L = any (λ i. ltb 15 (getD counters i 0 + hits t p L i)) (counter-places t p L)
 
 -- p's hits could not all be taken from one of p's counters
-unfoldable pub runs-short : Settings → (counters : List ℕ) (L p : ℕ) → Bool
-runs-short t counters L p = any (λ i. ltb (getD counters i 0) (hits t L p i)) (counter-places t L p)
+unfoldable pub runs-short : Settings → (counters : List ℕ) (p L : ℕ) → Bool
+runs-short t counters p L = any (λ i. ltb (getD counters i 0) (hits t p L i)) (counter-places t p L)
 
 -- 1 and 2, which every call checks first
 unfoldable pub memory-refusal : Settings → Memory → (after : ℕ) → ℕ
 memory-refusal t m after = refuse (not (in-range t)) 1 (refuse (not (sized t m)) 2 after)
 
 -- 3 and 4, which every update checks next
-unfoldable pub route-refusal : Settings → Memory → (L p after : ℕ) → ℕ
-route-refusal t m L p after = memory-refusal t m (refuse (ltb 32 L) 3 (refuse (loose L p) 4 after))
+unfoldable pub route-refusal : Settings → Memory → (p L after : ℕ) → ℕ
+route-refusal t m p L after = memory-refusal t m (refuse (ltb 32 L) 3 (refuse (loose p L) 4 after))
 
 -- what add gives back; 0 is success
 unfoldable pub add-refusal : Settings → Memory → (p L hop : ℕ) → ℕ
 add-refusal t m p L hop =
-    route-refusal t m L p
+    route-refusal t m p L
     (refuse (ltb 65535 hop) 5
-    (refuse (needs-slot t (m .slots) L p && full t (m .slots) L p) 8
-    (refuse (needs-slot t (m .slots) L p && passes-15 t (m .counters) L p) 9 0)))
+    (refuse (needs-slot t (m .slots) p L && full t (m .slots) p L) 8
+    (refuse (needs-slot t (m .slots) p L && passes-15 t (m .counters) p L) 9 0)))
 
 -- what withdraw gives back
 unfoldable pub withdraw-refusal : Settings → Memory → (p L : ℕ) → ℕ
 withdraw-refusal t m p L =
-    route-refusal t m L p
-    (refuse (not (stored t (m .slots) L p)) 7 (refuse (from-1 L (runs-short t (m .counters) L p)) 10 0))
+    route-refusal t m p L
+    (refuse (not (stored t (m .slots) p L)) 7 (refuse (from-1 L (runs-short t (m .counters) p L)) 10 0))
 
 -- what change gives back
 unfoldable pub change-refusal : Settings → Memory → (p L hop : ℕ) → ℕ
-change-refusal t m p L hop = route-refusal t m L p (refuse (ltb 65535 hop) 5 (refuse (not (stored t (m .slots) L p)) 7 0))
+change-refusal t m p L hop = route-refusal t m p L (refuse (ltb 65535 hop) 5 (refuse (not (stored t (m .slots) p L)) 7 0))
 
 -- ---- What each call does
 
 -- what an update gives back and leaves
-pub record Update : Type 0 where
+pub record Outcome : Type 0 where
   pub refusal : ℕ
   pub memory : Memory
 
 -- a number given back, and the two lists as they are left
-abbrev pub left : (refusal : ℕ) (counters slots : List ℕ) → Update
+abbrev pub left : (refusal : ℕ) (counters slots : List ℕ) → Outcome
 left refusal counters slots = record { refusal = refusal; memory = lent counters slots }
 
 -- a refused call leaves the memory as it was
-unfoldable pub update : (refusal : ℕ) (after before : Memory) → Update
-update refusal after before =
+unfoldable pub unless-refused : (refusal : ℕ) (after before : Memory) → Outcome
+unless-refused refusal after before =
     record { refusal = refusal; memory = cond (eqb refusal 0) after before }
 
 -- zero in every byte and word
@@ -249,9 +249,9 @@ unfoldable pub with-default : Settings → Memory → (mark : ℕ) → Memory
 with-default t m mark = lent (m .counters) (set (m .slots) (default-word t) mark)
 
 -- the slot that was found in p's bucket at length L, if one was, holds a prefix and a mark
-unfoldable pub with-found : Settings → (slots : List ℕ) (L p : ℕ) → Option ℕ → (q mark : ℕ) → List ℕ
-with-found t slots L p (some s) q mark = with-slot slots (slot-number t L p s) q mark
-with-found t slots L p none q mark = slots
+unfoldable pub with-found : Settings → (slots : List ℕ) (p L : ℕ) → Option ℕ → (q mark : ℕ) → List ℕ
+with-found t slots p L (some s) q mark = with-slot slots (slot-number t p L s) q mark
+with-found t slots p L none q mark = slots
 
 -- change, which add does too where p has its place: the slot that holds p gets a new mark beside the p that it has, and
 -- the counters stay
@@ -260,17 +260,17 @@ changed t m p L hop =
     cond (eqb L 0) (with-default t m (mark-of hop))
     (record {
       counters = m .counters;
-      slots = with-found t (m .slots) L p (held t (m .slots) L p) p (mark-of hop);
+      slots = with-found t (m .slots) p L (held t (m .slots) p L) p (mark-of hop);
     })
 
 -- add: where p needs a slot, the lowest free one gets prefix and mark, and at each of the K steps a counter goes up by
 -- one; where it needs none, this is a change
 unfoldable pub added : Settings → Memory → (p L hop : ℕ) → Memory
 added t m p L hop =
-    cond (needs-slot t (m .slots) L p)
+    cond (needs-slot t (m .slots) p L)
     (record {
-      counters = step-each (λ n. n + 1) (m .counters) (counter-places t L p);
-      slots = with-found t (m .slots) L p (vacant t (m .slots) L p) p (mark-of hop);
+      counters = step-each (λ n. n + 1) (m .counters) (counter-places t p L);
+      slots = with-found t (m .slots) p L (vacant t (m .slots) p L) p (mark-of hop);
     })
     (changed t m p L hop)
 
@@ -279,29 +279,29 @@ unfoldable pub withdrawn : Settings → Memory → (p L : ℕ) → Memory
 withdrawn t m p L =
     cond (eqb L 0) (with-default t m 0)
     (record {
-      counters = step-each (λ n. n - 1) (m .counters) (counter-places t L p);
-      slots = with-found t (m .slots) L p (held t (m .slots) L p) 0 0;
+      counters = step-each (λ n. n - 1) (m .counters) (counter-places t p L);
+      slots = with-found t (m .slots) p L (held t (m .slots) p L) 0 0;
     })
 
 -- clear, as it is given back and as it leaves the memory
-unfoldable pub clear : Settings → Memory → Update
-clear t m = update (memory-refusal t m 0) (zeroed m) m
+unfoldable pub clear : Settings → Memory → Outcome
+clear t m = unless-refused (memory-refusal t m 0) (zeroed m) m
 
 -- and so add
-unfoldable pub add : Settings → Memory → (p L hop : ℕ) → Update
-add t m p L hop = update (add-refusal t m p L hop) (added t m p L hop) m
+unfoldable pub add : Settings → Memory → (p L hop : ℕ) → Outcome
+add t m p L hop = unless-refused (add-refusal t m p L hop) (added t m p L hop) m
 
 -- withdraw
-unfoldable pub withdraw : Settings → Memory → (p L : ℕ) → Update
-withdraw t m p L = update (withdraw-refusal t m p L) (withdrawn t m p L) m
+unfoldable pub withdraw : Settings → Memory → (p L : ℕ) → Outcome
+withdraw t m p L = unless-refused (withdraw-refusal t m p L) (withdrawn t m p L) m
 
 -- and change
-unfoldable pub change : Settings → Memory → (p L hop : ℕ) → Update
-change t m p L hop = update (change-refusal t m p L hop) (changed t m p L hop) m
+unfoldable pub change : Settings → Memory → (p L hop : ℕ) → Outcome
+change t m p L hop = unless-refused (change-refusal t m p L hop) (changed t m p L hop) m
 
 -- the filter of length L claims p: all its K counters are nonzero
-unfoldable pub claims : Settings → (counters : List ℕ) (L p : ℕ) → Bool
-claims t counters L p = all (λ i. ltb 0 (getD counters i 0)) (counter-places t L p)
+unfoldable pub claims : Settings → (counters : List ℕ) (p L : ℕ) → Bool
+claims t counters p L = all (λ i. ltb 0 (getD counters i 0)) (counter-places t p L)
 
 -- the number whose bit L − 1 is set exactly where the test holds at L, for L from n down to 1
 unfoldable pub bits-where : (ℕ → Bool) → (n : ℕ) → ℕ
@@ -310,7 +310,7 @@ bits-where test (suc n) = cond (test (suc n)) (2 ^ n) 0 + bits-where test n
 
 -- bit L − 1 of the vector is set exactly if the address is claimed at length L
 unfoldable pub vector-of : Settings → (counters : List ℕ) (address : ℕ) → ℕ
-vector-of t counters address = bits-where (λ L. claims t counters L (prefix L address)) 32
+vector-of t counters address = bits-where (λ L. claims t counters (prefix address L) L) 32
 
 -- the match vector, as it is given back
 unfoldable pub match-vector : Settings → Memory → (address : ℕ) → Vector
@@ -332,16 +332,16 @@ unfoldable pub set-bits : (vector : ℕ) → List ℕ
 set-bits vector = those (bit-set vector) (down-from 32)
 
 -- the bucket at length L ends the search where it holds the prefix; else the search goes on
-abbrev pub found-or : Settings → (L p probes : ℕ) → Option ℕ → Place → Place
-found-or t L p probes (some s) after = At (slot-number t L p s) L probes
-found-or t L p probes none after = after
+abbrev pub found-or : Settings → (p L probes : ℕ) → Option ℕ → Place → Place
+found-or t p L probes (some s) after = At (slot-number t p L s) L probes
+found-or t p L probes none after = after
 
 -- the buckets of the address at these lengths are searched in order, each one probe more
 unfoldable pub search : Settings → (slots : List ℕ) (address probes : ℕ) → List ℕ → Place
 search t slots address probes [] = Absent
 search t slots address probes (L ∷ Ls) =
-    let p = prefix L address in
-    found-or t L p (probes + 1) (held t slots L p) (search t slots address (probes + 1) Ls)
+    let p = prefix address L in
+    found-or t p L (probes + 1) (held t slots p L) (search t slots address (probes + 1) Ls)
 
 -- what a slot of this mark answers, found at length L after so many probes
 unfoldable pub route-answer : (mark L probes : ℕ) → Answer

@@ -5,7 +5,7 @@ use mathlib.Core.List.{List}
 use Prim.Native.Nat.{ℕ}
 use contract.Lifetimes.{Lfts}
 use denote.Ref.{now}
-use Rattle.rules.specs.Table.{Update, left}
+use Rattle.rules.specs.Table.{Outcome, left}
 use Rattle.table.proofs.clear.Reads as clear
 use Rattle.table.proofs.add.Reads as add
 use Rattle.table.proofs.withdraw.Reads as withdraw
@@ -15,7 +15,7 @@ use Rattle.table.proofs.lookup.Reads as lookup
 use Rattle.table.proofs.lookup_list.Reads as lookup-list
 
 -- an update that is left so, and so, is left alike
-alike : (u : Update) {r q : ℕ} {counters bytes slots words : List ℕ} → u ≡ left r counters slots → u ≡ left q bytes words
+alike : (u : Outcome) {r q : ℕ} {counters bytes slots words : List ℕ} → u ≡ left r counters slots → u ≡ left q bytes words
     → (r ≡ q) × ((counters ≡ bytes) × (slots ≡ words))
 alike u one other =
     let same = sym one ∙ other in

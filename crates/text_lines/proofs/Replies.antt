@@ -2,13 +2,13 @@
 use Prim.Native.Nat.{ℕ}
 use mathlib.Core.Path.{_≡_, refl}
 use mathlib.Core.List.{List}
-use Rattle.rules.specs.Table.{Memory, Update, left, lent}
+use Rattle.rules.specs.Table.{Memory, Outcome, left, lent}
 use Rattle.rules.specs.declared.Answer.{Answer}
 use Rattle.text_answers.specs.Texts.{PutWithin, outcome, found}
 use Rattle.text_lines.specs.Lines.{updated, Answered}
 
 module _ {before after : List ℕ} {at next : ℕ} where
-  pub by-update : {u : Update} {r : ℕ} {counters slots : List ℕ} → u ≡ left r counters slots → PutWithin 33 before at (outcome r) after next → Answered (updated u) (lent counters slots) before at after next
+  pub by-update : {u : Outcome} {r : ℕ} {counters slots : List ℕ} → u ≡ left r counters slots → PutWithin 33 before at (outcome r) after next → Answered (updated u) (lent counters slots) before at after next
   unfolding updated
   by-update e p = rw e (record { memory-is = refl; put = p })
 

@@ -6,7 +6,7 @@ use mathlib.Core.List.{List, [], _∷_, _++_}
 use lib.ListN.{length, take, set}
 use lib.Dec.{ltb, leb, eqb}
 use Rattle.rules.specs.declared.Settings.{Settings}
-use Rattle.rules.specs.Table.{Memory, Update, add, withdraw, change, lookup}
+use Rattle.rules.specs.Table.{Memory, Outcome, add, withdraw, change, lookup}
 use Rattle.text_requests.specs.declared.Request.{Request}
 use Rattle.text_requests.specs.declared.Request.the-variants.{Add, Drop, Move, Find, Unreadable}
 use Rattle.text_requests.specs.Shapes.{request}
@@ -22,7 +22,7 @@ pub record Reply : Type 0 where
   pub memory : Memory
 
 -- what an update gives back and leaves, as a reply
-unfoldable pub updated : Update → Reply
+unfoldable pub updated : Outcome → Reply
 updated u = record { text = outcome (u .refusal); memory = u .memory }
 
 -- the call that a line asks for replies; an unreadable line leaves the memory as it is

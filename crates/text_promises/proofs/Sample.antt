@@ -4,7 +4,7 @@ use Prim.Native.String.{String}
 use mathlib.Core.Path.{_≡_, refl}
 use mathlib.Core.Bool.{Bool, true}
 use mathlib.Core.List.{[]}
-use Rattle.text_spelling.specs.Spelling.{spelled, same}
+use Rattle.text_spelling.specs.Spelling.{spelled, same-bytes}
 use Rattle.rules.proofs.Worked.{T}
 use Rattle.text_requests.specs.Shapes.{digit, front-digit, digits, value, begins-with-number, number, no-numbers, with-octet, with-length, with-hop, item, items, fit, request}
 use Rattle.text_answers.specs.Texts.{last-digits, decimal, refused as refused-text, outcome, hit, miss}
@@ -19,7 +19,7 @@ paper-computing = 0
 
 -- an input is answered so, on paper, by a table with settings T that was cleared
 abbrev answered : (input texts : String) → Bool
-answered input texts = same (paper-answers T [] (lines (spelled input))) (spelled texts)
+answered input texts = same-bytes (paper-answers T [] (lines (spelled input))) (spelled texts)
 
 -- the last line of the input need not end
 pub sample : answered "add 10.0.0.0/8 7\nadd 10.1.0.0/16 9\nfind 10.2.2.3\nfind 11.0.0.1\ndrop 10.1.0.0/16\nfind 10.1.2.3\ndrop 10.1.0.0/16" "ok\nok\n7 8 2\nnone 0\nok\n7 8 1\nrefused 7\n" ≡ true

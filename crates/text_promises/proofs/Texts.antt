@@ -11,7 +11,7 @@ use lib.Dec.{ltb, eqb}
 use borrow.Author.Tests.{lt-ltb, le-leb, ltb-true, ltb-false, eqb-true}
 use Rattle.rules.specs.declared.Settings.{Settings}
 use Rattle.rules.specs.Tools.{within}
-use Rattle.text_spelling.specs.Spelling.{spelled, same}
+use Rattle.text_spelling.specs.Spelling.{spelled, same-bytes}
 use Rattle.text_requests.specs.declared.Request.{Request}
 use Rattle.text_requests.specs.declared.Request.the-variants.{Add, Drop, Move, Find, Unreadable}
 use Rattle.text_requests.specs.Shapes.{digit, digits, value}
@@ -22,11 +22,11 @@ use Rattle.promises.specs.Demands.{longest}
 use Rattle.text_promises.specs.Paper.{find-text, text-by}
 
 -- ok is written to no refusal
-pub only-ok : (n : ℕ) → same (outcome n) (spelled "ok\n") ≡ eqb n 0
+pub only-ok : (n : ℕ) → same-bytes (outcome n) (spelled "ok\n") ≡ eqb n 0
 unfolding outcome refused
 only-ok n = go (eqb n 0)
   where
-    go : (b : Bool) → same (cond b (spelled "ok\n") (refused n)) (spelled "ok\n") ≡ b
+    go : (b : Bool) → same-bytes (cond b (spelled "ok\n") (refused n)) (spelled "ok\n") ≡ b
     go true = refl
     go false = refl
 

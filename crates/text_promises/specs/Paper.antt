@@ -4,7 +4,7 @@ use mathlib.Core.Bool.{cond}
 use mathlib.Core.List.{List, [], _∷_, _++_}
 use mathlib.Core.Option.{Option, some, none}
 use Rattle.rules.specs.declared.Settings.{Settings}
-use Rattle.text_spelling.specs.Spelling.{spelled, same}
+use Rattle.text_spelling.specs.Spelling.{spelled, same-bytes}
 use Rattle.text_requests.specs.declared.Request.{Request}
 use Rattle.text_requests.specs.declared.Request.the-variants.{Add, Drop, Move, Find, Unreadable}
 use Rattle.text_requests.specs.Shapes.{request}
@@ -25,7 +25,7 @@ update-of Unreadable = none
 
 -- an update to which ok was written is done to the routes
 unfoldable pub done : Option Call → (text : List ℕ) → List Route → List Route
-done (some call) text routes = cond (same text (spelled "ok\n")) (written call routes) routes
+done (some call) text routes = cond (same-bytes text (spelled "ok\n")) (written call routes) routes
 done none text routes = routes
 
 -- the routes after a line of any bytes and the text that was written to it

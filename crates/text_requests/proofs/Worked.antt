@@ -6,7 +6,7 @@ use mathlib.Core.Bool.{Bool, true, _&&_}
 use mathlib.Core.List.{List, [], _∷_, _++_}
 use lib.ListN.{replicate}
 use Rattle.rules.specs.Tools.{within}
-use Rattle.text_spelling.specs.Spelling.{spelled, same}
+use Rattle.text_spelling.specs.Spelling.{spelled, same-bytes}
 use Rattle.text_requests.specs.declared.Request.{Request}
 use Rattle.text_requests.specs.declared.Request.the-variants.{Add, Drop, Move, Find, Unreadable}
 use Rattle.text_requests.specs.Shapes.{digit, front-digit, digits, value, begins-with-number, number, no-numbers, with-octet, with-length, with-hop, item, items, fit, request}
@@ -38,7 +38,7 @@ unreadable (line ∷ lines) = case line Unreadable ∷ unreadable lines
 
 abbrev come-out : List Case → Bool
 come-out [] = true
-come-out (c ∷ cases) = same (figures (request (c .line))) (figures (c .asks)) && come-out cases
+come-out (c ∷ cases) = same-bytes (figures (request (c .line))) (figures (c .asks)) && come-out cases
 
 abbrev worked : List Case
 worked =

@@ -12,8 +12,8 @@ spelled [] = nil
 spelled (c ∷ s) = cons (code c) (spelled s)
 
 -- two lists of numbers are the same, as a test: a worked case is computed to true
-abbrev pub same : (a b : List ℕ) → Bool
-same nil nil = true
-same nil (cons y ys) = false
-same (cons x xs) nil = false
-same (cons x xs) (cons y ys) = eqb x y && same xs ys
+abbrev pub same-bytes : (a b : List ℕ) → Bool
+same-bytes nil nil = true
+same-bytes nil (cons y ys) = false
+same-bytes (cons x xs) nil = false
+same-bytes (cons x xs) (cons y ys) = eqb x y && same-bytes xs ys

@@ -5,8 +5,8 @@ use Rattle.rules.specs.declared.Settings.{Settings}
 use Rattle.rules.proofs.Refusals.{RouteFitted, HopFitted}
 use Rattle.updates.specs.Checked.{Checked}
 
-module _ {t : Settings} {counters slots : List ℕ} {L p : ℕ} where
-  pub checked : RouteFitted t counters slots L p → Checked t counters slots L p
+module _ {t : Settings} {counters slots : List ℕ} {p L : ℕ} where
+  pub checked : RouteFitted t counters slots p L → Checked t counters slots p L
   checked f =
       record {
         range = f .memory .range;
@@ -16,9 +16,9 @@ module _ {t : Settings} {counters slots : List ℕ} {L p : ℕ} where
         tight = f .tight;
       }
 
-  pub route-fitted : Checked t counters slots L p → RouteFitted t counters slots L p
+  pub route-fitted : Checked t counters slots p L → RouteFitted t counters slots p L
   route-fitted c =
       record { memory = record { range = c .range; counters-fit = c .counters-fit; slots-fit = c .slots-fit }; high = c .high; tight = c .tight }
 
-  pub hop-fitted : {hop : ℕ} → Checked t counters slots L p → hop ≤ 65535 → HopFitted t counters slots L p hop
+  pub hop-fitted : {hop : ℕ} → Checked t counters slots p L → hop ≤ 65535 → HopFitted t counters slots p L hop
   hop-fitted c small = record { route = route-fitted c; small = small }

@@ -8,9 +8,9 @@ use Rattle.rules.specs.declared.Settings.{Settings}
 use Rattle.rules.specs.Table.{in-range, counters-size, slots-size, prefix}
 
 -- settings in range, memory of their size, one of the 33 lengths and a prefix with no bit past it
-pub record Checked (t : Settings) (counters slots : List ℕ) (L p : ℕ) : Type 0 where
+pub record Checked (t : Settings) (counters slots : List ℕ) (p L : ℕ) : Type 0 where
   pub range : in-range t ≡ true
   pub counters-fit : length counters ≡ counters-size t
   pub slots-fit : length slots ≡ slots-size t
   pub high : L ≤ 32
-  pub tight : prefix L p ≡ p
+  pub tight : prefix p L ≡ p

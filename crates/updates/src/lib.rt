@@ -24,7 +24,7 @@ pub fn add_checked(
     length: u32,
     hop: u32,
 ) -> u32
-    requires { ⌜ Checked settings (now counters) (now slots) length p ⌝ }
+    requires { ⌜ Checked settings (now counters) (now slots) p length ⌝ }
     requires { ⌜ hop ≤ 65535 ⌝ }
     ensures { λ r. ⌜ add settings (lent (now (counters .entry)) (now (slots .entry))) p length hop ≡ left r (now (counters .exit)) (now (slots .exit)) ⌝ }
 {
@@ -63,7 +63,7 @@ pub fn withdraw_checked(
     p: u32,
     length: u32,
 ) -> u32
-    requires { ⌜ Checked settings (now counters) (now slots) length p ⌝ }
+    requires { ⌜ Checked settings (now counters) (now slots) p length ⌝ }
     ensures { λ r. ⌜ withdraw settings (lent (now (counters .entry)) (now (slots .entry))) p length ≡ left r (now (counters .exit)) (now (slots .exit)) ⌝ }
 {
     if length == 0 {

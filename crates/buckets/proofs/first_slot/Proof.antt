@@ -18,19 +18,19 @@ shl-result c = omega (arith, ranges _ (c .before .before .pre .range))
 add-result : tie.Need-add-result
 add-result c =
     let start = c .before .before in
-    let small = bucket-small _ _ (start .args .p) (start .pre) in
-    rw (before-whole _ _ 0 (start .pre), c .before .bucket-of .ensures) (omega arith)
+    let small = bucket-small _ (start .args .p) _ (start .pre) in
+    rw (before-whole _ 0 _ (start .pre), c .before .bucket-of .ensures) (omega arith)
 
 mul-result : tie.Need-mul-result
 mul-result c =
     let start = c .before .before .before in
-    let small = first-small _ _ (start .args .p) (start .pre) in
-    rw (before-whole _ _ 0 (start .pre), c .before .before .bucket-of .ensures) (omega arith)
+    let small = first-small _ (start .args .p) _ (start .pre) in
+    rw (before-whole _ 0 _ (start .pre), c .before .before .bucket-of .ensures) (omega arith)
 
 returns : tie.Need-returns
 unfolding slot-number
 returns c =
-    rw (before-whole _ _ 0 (c .before .before .before .pre), c .before .before .bucket-of .ensures) (sym (add-zero _))
+    rw (before-whole _ 0 _ (c .before .before .before .pre), c .before .before .bucket-of .ensures) (sym (add-zero _))
 
 pub first-slot-spec : {M : Type 1} → statement M
 first-slot-spec =

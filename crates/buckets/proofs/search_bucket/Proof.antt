@@ -12,7 +12,7 @@ use Rattle.buckets.proofs.search_bucket.Statement.{statement}
 use Rattle.buckets.proofs.search_bucket.Tie as tie
 
 abbrev Inv-loop : tie.InvT-loop
-Inv-loop settings slots p length first vacancy₀ s₀ vacancy s = Met settings slots length p vacancy s
+Inv-loop settings slots p length first vacancy₀ s₀ vacancy s = Met settings slots p length vacancy s
 
 abbrev μ-loop : tie.MeasureT-loop
 μ-loop settings slots p length first vacancy₀ s₀ vacancy s = settings .s - s

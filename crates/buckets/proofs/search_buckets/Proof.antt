@@ -9,7 +9,7 @@ use Rattle.buckets.proofs.search_buckets.Statement.{statement}
 use Rattle.buckets.proofs.search_buckets.Tie as tie
 
 abbrev Inv-loop : tie.InvT-loop
-Inv-loop settings slots address lengths found₀ left probes turn s₀ found s = Below settings slots (turn .length) (turn .p) found s
+Inv-loop settings slots address lengths found₀ left probes turn s₀ found s = Below settings slots (turn .p) (turn .length) found s
 
 abbrev μ-loop : tie.MeasureT-loop
 μ-loop settings slots address lengths found₀ left probes turn s₀ found s = settings .s - s

@@ -5,18 +5,18 @@ use native.Mathlib.Numerals.{unary-clauses}
 use native.Mathlib.Omega.{arith}
 use lib.Count.{leadingZeros, leading-top, leading-le}
 use Rattle.rules.proofs.Vectors.{one-bit}
-use Rattle.buckets.specs.Turns.{Longest}
+use Rattle.buckets.specs.Turns.{Highest}
 use Rattle.buckets.proofs.turn_of.Statement.{statement}
 use Rattle.buckets.proofs.turn_of.Tie as tie
 
-longest-is : (v : ℕ) → (v ≡ 0 → ⊥) → v < 2 ^ 32 → Longest v (32 - leadingZeros 32 v)
+longest-is : (v : ℕ) → (v ≡ 0 → ⊥) → v < 2 ^ 32 → Highest v (32 - leadingZeros 32 v)
 longest-is v claimed fits =
     let top = leading-top 32 v (omega arith) fits in
     let same : 32 - leadingZeros 32 v ≡ suc (top .0) = omega arith in
     rw same (record { low = omega arith; high = omega arith; reached = simp unary-clauses (top .2); passed = top .3 })
 
 -- the length of the turn
-at : (c : tie.Start) → Longest (c .args .lengths) (32 - leadingZeros 32 (c .args .lengths))
+at : (c : tie.Start) → Highest (c .args .lengths) (32 - leadingZeros 32 (c .args .lengths))
 at c = longest-is _ (c .pre .1) (omega arith)
 
 sub-length : tie.Need-sub-length

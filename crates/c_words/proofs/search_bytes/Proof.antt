@@ -10,7 +10,7 @@ use Rattle.c_words.proofs.search_bytes.Statement.{statement}
 use Rattle.c_words.proofs.search_bytes.Tie as tie
 
 abbrev Inv-loop : tie.InvT-loop
-Inv-loop settings slots address lengths found₀ left probes turn s₀ found s = Below settings (words slots) (turn .length) (turn .p) found s
+Inv-loop settings slots address lengths found₀ left probes turn s₀ found s = Below settings (words slots) (turn .p) (turn .length) found s
 
 abbrev μ-loop : tie.MeasureT-loop
 μ-loop settings slots address lengths found₀ left probes turn s₀ found s = settings .s - s

@@ -1,15 +1,15 @@
 -- The code's test is that of the rules, and the last word is the default's.
 use borrow.Author.Needs.{needs}
-use Rattle.rules.specs.Table.{refuse, update, with-default}
+use Rattle.rules.specs.Table.{refuse, unless-refused, with-default}
 use Rattle.defaults.proofs.change_default.Statement.{statement}
 use Rattle.defaults.proofs.change_default.Tie as tie
 
 returns : tie.Need-returns
-unfolding update refuse
+unfolding unless-refused refuse
 returns c counters = rw (← (c .before .before .default-mark .ensures), ← (c .before .is-occupied .ensures), c .if1 .taken)
 
 returns-2 : tie.Need-returns-2
-unfolding update refuse with-default
+unfolding unless-refused refuse with-default
 returns-2 c counters =
     let put = c .before .before in
     let tested = put .before .before in

@@ -23,7 +23,7 @@ nonzero counters places = all (λ i. ltb 0 (getD counters i 0)) places
 
 abbrev Inv-loop : tie.InvT-loop
 Inv-loop settings counters p length start bits once first growth g₀ claimed₀ counter₀ end g claimed counter =
-    (claimed ≡ true) × (claims settings counters length p ≡ nonzero counters (places-left settings length growth counter g))
+    (claimed ≡ true) × (claims settings counters p length ≡ nonzero counters (places-left settings length growth counter g))
 
 abbrev μ-loop : tie.MeasureT-loop
 μ-loop settings counters p length start bits once first growth g₀ claimed₀ counter₀ end g claimed counter = end - counter

@@ -10,7 +10,7 @@ use Rattle.filters.proofs.places_of.Statement.{statement}
 use Rattle.filters.proofs.places_of.Tie as tie
 
 abbrev Inv-loop : tie.InvT-loop
-Inv-loop p length settings start bits growth g₀ places₀ step₀ step-end g places step = Written settings length p growth places step g
+Inv-loop p length settings start bits growth g₀ places₀ step₀ step-end g places step = Written settings p length growth places step g
 
 abbrev μ-loop : tie.MeasureT-loop
 μ-loop p length settings start bits growth g₀ places₀ step₀ step-end g places step = step-end - step

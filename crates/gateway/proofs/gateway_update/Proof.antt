@@ -11,12 +11,12 @@ returns : tie.Need-returns
 returns c = message-stopped _ (told-false (c .before .before .is-whole .ensures) (c .before .if1 .taken)) _ _ (c .refusal-part .ensures) _ _
 
 number-of-report-requires : tie.Need-number-of-report-requires
-number-of-report-requires c κs = counts-fit-above (c .before .before .before .before .update .ensures) (message-fits _ _ _ _)
+number-of-report-requires c κs = counts-fit-above (c .before .before .before .before .apply-message .ensures) (message-fits _ _ _ _)
 
 returns-2 : tie.Need-returns-2
 returns-2 c =
     let call = c .before .before .before .before .before in
-    rw (call .before .before .before .settings-of .ensures) at (message-crossed (call .update .ensures) (c .number-of-report .ensures))
+    rw (call .before .before .before .settings-of .ensures) at (message-crossed (call .apply-message .ensures) (c .number-of-report .ensures))
 
 pub gateway-update-spec : {M : Type 1} → statement M
 gateway-update-spec =

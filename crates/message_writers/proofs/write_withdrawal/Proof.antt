@@ -20,7 +20,7 @@ use Rattle.message_writers.proofs.write_withdrawal.Tie as tie
 longest : (p L n : ℕ) → List ℕ
 longest p L n = replicate 16 255 ++ (0 ∷ (24 + n) ∷ 2 ∷ 0 ∷ (1 + n) ∷ L ∷ octets p) ++ (0 ∷ 0 ∷ [])
 
-module _ (p L : ℕ) (short : L ≤ 32) (tight : loose L p ≡ false) (word : p < 2 ^ 32) where
+module _ (p L : ℕ) (short : L ≤ 32) (tight : loose p L ≡ false) (word : p < 2 ^ 32) where
   -- the octets that it has no byte for are zero, and so are the two bytes after it
   front : take (24 + bytes-for L) (longest p L (bytes-for L)) ≡ withdrawal p L
   unfolding longest withdrawal withdrawal-size prefix-bytes octets
@@ -42,7 +42,7 @@ module _ (p L : ℕ) (short : L ≤ 32) (tight : loose L p ≡ false) (word : p 
       sym (e ∙ rw (take-length bytes, whole, drop-of-length-le room {i = 24 + n} (omega arith), append-nil, many) front)
 
 -- the first two checks passed, and the message's size is known
-tight : (c : tie.After-bytes-for) → let a = c .before .before .before .before .before .args in loose (a .length) (a .p) ≡ false
+tight : (c : tie.After-bytes-for) → let a = c .before .before .before .before .before .args in loose (a .p) (a .length) ≡ false
 tight c = loose-false _ _ .1 (sym (c .before .before .prefix-of .ensures) ∙ c .before .if2 .left)
 
 size : (c : tie.After-bytes-for) → 24 + c .bytes-for .result ≡ withdrawal-size (c .before .before .before .before .before .args .length)

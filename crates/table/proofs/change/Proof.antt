@@ -16,7 +16,7 @@ returns c = change-refused _ _ _ _ _ (c .if1 .taken) _ (c .before .refuse-hop .e
 
 -- what the checks tell
 fit : (c : tie.Else1) → let a = c .before .before .before .before .before .before .args in
-    HopFitted (a .settings) (now (a .counters)) (now (a .slots)) (a .length) (a .p) (a .hop)
+    HopFitted (a .settings) (now (a .counters)) (now (a .slots)) (a .p) (a .length) (a .hop)
 fit c = hop-passed _ _ _ _ _ _ 0 (sym (c .before .refuse-hop .ensures) ∙ c .if1 .left) .0
 
 returns-2 : tie.Need-returns-2

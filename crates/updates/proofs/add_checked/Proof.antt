@@ -18,7 +18,7 @@ use Rattle.updates.proofs.add_checked.Tie as tie
 
 -- what the checks have told
 fit : (c : tie.After-slice-known2) → let a = c .before .before .args in
-    HopFitted (a .settings) (now (a .counters)) (now (a .slots)) (a .length) (a .p) (a .hop)
+    HopFitted (a .settings) (now (a .counters)) (now (a .slots)) (a .p) (a .length) (a .hop)
 fit c = hop-fitted (c .before .before .pre .0) (c .before .before .pre .1)
 
 returns : tie.Need-returns
@@ -57,8 +57,8 @@ returns-3 c =
 
 -- the prefix is not held, and this slot is the lowest free one
 free-slot : (c : tie.After-vacancy) → let a = c .before .before .before .before .before .before .before .before .before .args in
-    (held (a .settings) (now (a .slots)) (a .length) (a .p) ≡ none)
-    × InBucket (a .settings) (a .length) (a .p) (vacant (a .settings) (now (a .slots)) (a .length) (a .p)) (c .vacancy .given .0 .0)
+    (held (a .settings) (now (a .slots)) (a .p) (a .length) ≡ none)
+    × InBucket (a .settings) (a .p) (a .length) (vacant (a .settings) (now (a .slots)) (a .p) (a .length)) (c .vacancy .given .0 .0)
 free-slot c =
     let absent = c .before .before in
     let s = absent .before .before in
@@ -78,7 +78,7 @@ step-each-requires c κs =
 
 -- 9 is asked as in the rules
 nine : (c : tie.After-cannot-step) → let a = c .before .before .before .before .before .before .before .before .before .before .before .before .before .before .args in
-    passes-15 (a .settings) (now (a .counters)) (a .length) (a .p) ≡ c .cannot-step .result
+    passes-15 (a .settings) (now (a .counters)) (a .p) (a .length) ≡ c .cannot-step .result
 nine c = sym (c .cannot-step .ensures ∙ cannot-raise (c .before .before .before .places-of .ensures) _)
 
 returns-4 : tie.Need-returns-4

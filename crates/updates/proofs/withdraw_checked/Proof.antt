@@ -15,7 +15,7 @@ use Rattle.updates.proofs.withdraw_checked.Statement.{statement}
 use Rattle.updates.proofs.withdraw_checked.Tie as tie
 
 -- what the checks have told
-fit : (c : tie.After-slice-known2) → let a = c .before .before .args in RouteFitted (a .settings) (now (a .counters)) (now (a .slots)) (a .length) (a .p)
+fit : (c : tie.After-slice-known2) → let a = c .before .before .args in RouteFitted (a .settings) (now (a .counters)) (now (a .slots)) (a .p) (a .length)
 fit c = route-fitted (c .before .before .pre)
 
 returns : tie.Need-returns
@@ -35,7 +35,7 @@ returns-2 c =
 
 -- the slot that holds the prefix
 held-slot : (c : tie.After-place) → let a = c .before .before .before .before .before .before .before .args in
-    InBucket (a .settings) (a .length) (a .p) (held (a .settings) (now (a .slots)) (a .length) (a .p)) (c .place .given .0 .0)
+    InBucket (a .settings) (a .p) (a .length) (held (a .settings) (now (a .slots)) (a .p) (a .length)) (c .place .given .0 .0)
 held-slot c = held-in (c .before .before .search-bucket .ensures) (c .place .given .1)
 
 cannot-step-requires : tie.Need-cannot-step-requires
@@ -51,7 +51,7 @@ step-each-requires c κs =
 
 -- 10 is asked as in the rules
 ten : (c : tie.After-cannot-step) → let a = c .before .before .before .before .before .before .before .before .before .before .before .before .args in
-    runs-short (a .settings) (now (a .counters)) (a .length) (a .p) ≡ c .cannot-step .result
+    runs-short (a .settings) (now (a .counters)) (a .p) (a .length) ≡ c .cannot-step .result
 ten c = sym (c .cannot-step .ensures ∙ cannot-lower (c .before .before .before .places-of .ensures) _)
 
 returns-3 : tie.Need-returns-3

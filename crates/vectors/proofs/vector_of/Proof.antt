@@ -19,12 +19,12 @@ use Rattle.vectors.proofs.vector_of.Statement.{statement}
 use Rattle.vectors.proofs.vector_of.Tie as tie
 
 abbrev claimed : Settings → List ℕ → (address L : ℕ) → Bool
-claimed t counters address L = claims t counters L (prefix L address)
+claimed t counters address L = claims t counters (prefix address L) L
 
 -- what stands where the turn of a length comes; length 0 comes after the last one, and its bit is past the 32
 record Turn (t : Settings) (counters : List ℕ) (address vector p bit start length : ℕ) : Type 0 where
   pub few : length ≤ 32
-  pub cut : p ≡ prefix length address
+  pub cut : p ≡ prefix address length
   pub its-bit : bit ≡ 2 ^ (32 - length) % 2 ^ 32
   pub ends : start ≡ filter-start t (suc length)
   pub so-far : vector ≡ filled (claimed t counters address) length
@@ -88,7 +88,10 @@ told : (c : tie.After-claims-prefix Inv-loop μ-loop) →
     let turn = c .before .before .before in
     let a = began turn .args in
     claimed (a .settings) (a .counters .now) (a .address) (turn .before .loop .length) ≡ c .claims-prefix .result
-told c = ap (claims _ _ _) (sym (c .before .before .before .before .loop .inv .cut)) ∙ sym (c .claims-prefix .ensures)
+told c =
+    let turn = c .before .before .before in
+    let a = began turn .args in
+    ap (λ (p : ℕ). claims (a .settings) (a .counters .now) p (turn .before .loop .length)) (sym (turn .before .loop .inv .cut)) ∙ sym (c .claims-prefix .ensures)
 
 loop-again : tie.Need-loop-again Inv-loop μ-loop
 loop-again c =
@@ -98,7 +101,7 @@ loop-again c =
     let its = at .inv .its-bit ∙ mod-eq-of-lt (pow-lt {i = 32 - L} {j = 32} (omega (arith, low turn))) in
     record {
       few = omega (arith, at .inv .few);
-      cut = rw (at .inv .cut, its) (prefix-next L _ (low turn) (at .inv .few) (began turn .fits .address .fits));
+      cut = rw (at .inv .cut, its) (prefix-next _ L (low turn) (at .inv .few) (began turn .fits .address .fits));
       its-bit = rw (its, ← pow-add 2 (32 - L) 1) (ap (λ (n : ℕ). 2 ^ n % 2 ^ 32) (omega (arith, low turn, at .inv .few)));
       ends = begins (c .before .before) .there ∙ ap (filter-start _) (omega (arith, low turn));
       so-far =

@@ -3,7 +3,7 @@ use mathlib.Core.Path.{sym}
 use native.Mathlib.Omega.{arith}
 use denote.Ref.{now}
 use borrow.Author.Needs.{needs}
-use Rattle.message_format.specs.Format.{byte, after-prefix, prefix-at}
+use Rattle.message_format.specs.Format.{byte, after-prefix, prefix-from}
 use Rattle.message_cursors.specs.Steps.{next-prefix, read-prefix}
 use Rattle.message_cursors.proofs.Steps.{outside, ended, faulty, moved, fits-so, fits-not-long, fits-not-over}
 use Rattle.message_cursors.proofs.Prefixes.next.Statement.{statement}
@@ -32,7 +32,7 @@ returns-4 c =
     (fits-not-over _ _ _ (bits .if3 .left) (omega (arith, sized .bytes-for .ensures, c .if4 .taken))))
 
 returns-5 : tie.Need-returns-5
-unfolding next-prefix byte after-prefix read-prefix prefix-at
+unfolding next-prefix byte after-prefix read-prefix prefix-from
 returns-5 c =
     let address = c .before in
     let last = address .before in

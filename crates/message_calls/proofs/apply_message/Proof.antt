@@ -11,8 +11,8 @@ use Rattle.message_readers.specs.declared.Message.the-variants.{Good}
 use Rattle.message_readers.proofs.Headers.{MessageTold, message-told}
 use Rattle.message_readers.proofs.Places.{DueTold, due-told}
 use Rattle.message_calls.proofs.Whole.{first, withdrawn-fits, memory-refused, twelve, thirteen, then-fits, both-walks}
-use Rattle.message_calls.proofs.update.Statement.{statement}
-use Rattle.message_calls.proofs.update.Tie as tie
+use Rattle.message_calls.proofs.apply_message.Statement.{statement}
+use Rattle.message_calls.proofs.apply_message.Tie as tie
 
 -- settings and sizes are good
 fit : (c : tie.Else1) → let a = c .before .before .before .before .before .before .before .before .args in memory-refusal (a .settings) (lent (now (a .counters)) (now (a .slots))) 0 ≡ 0
@@ -83,8 +83,8 @@ returns-4 c =
     both-walks _ _ _ _ _ (fit (k .before .before .before .before)) (good .0) (known .0) (known .1) (walked done)
     (rw (good .2) at (last .add-each .ensures))
 
-pub update-spec : {M : Type 1} → statement M
-update-spec =
+pub apply-message-spec : {M : Type 1} → statement M
+apply-message-spec =
     tie.close
     (tie.spec
     (λ c κs. search needs)
