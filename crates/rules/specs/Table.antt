@@ -283,11 +283,11 @@ withdrawn t m p L =
       slots = with-found t (m .slots) p L (held t (m .slots) p L) 0 0;
     })
 
--- clear, as it is given back and as it leaves the memory
+-- each call, as it is given back and as it leaves the memory: clear
 unfoldable pub clear : Settings → Memory → Outcome
 clear t m = unless-refused (memory-refusal t m 0) (zeroed m) m
 
--- and so add
+-- add
 unfoldable pub add : Settings → Memory → (p L hop : ℕ) → Outcome
 add t m p L hop = unless-refused (add-refusal t m p L hop) (added t m p L hop) m
 
@@ -295,7 +295,7 @@ add t m p L hop = unless-refused (add-refusal t m p L hop) (added t m p L hop) m
 unfoldable pub withdraw : Settings → Memory → (p L : ℕ) → Outcome
 withdraw t m p L = unless-refused (withdraw-refusal t m p L) (withdrawn t m p L) m
 
--- and change
+-- change
 unfoldable pub change : Settings → Memory → (p L hop : ℕ) → Outcome
 change t m p L hop = unless-refused (change-refusal t m p L hop) (changed t m p L hop) m
 
@@ -430,7 +430,7 @@ whole-words (b0 ∷ b1 ∷ []) = []
 whole-words (b0 ∷ b1 ∷ b2 ∷ []) = []
 whole-words (b0 ∷ b1 ∷ b2 ∷ b3 ∷ bytes) = (b0 + b1 * 2 ^ 8 + b2 * 2 ^ 16 + b3 * 2 ^ 24) ∷ whole-words bytes
 
--- bytes that are no whole words are no slots, so their size is wrong for any settings
+-- bytes that are not a whole number of words are no slots, so their size is wrong for any settings
 unfoldable pub words : (bytes : List ℕ) → List ℕ
 words bytes = cond (eqb (length bytes % 4) 0) (whole-words bytes) []
 
@@ -457,7 +457,7 @@ unfoldable pub bytes-of : (words : List ℕ) → List ℕ
 bytes-of [] = []
 bytes-of (word ∷ words) = word % 2 ^ 8 ∷ word / 2 ^ 8 % 2 ^ 8 ∷ word / 2 ^ 16 % 2 ^ 8 ∷ word / 2 ^ 24 ∷ bytes-of words
 
--- what a list of addresses gives back to C: 18 for bytes that are no whole words too
+-- what a list of addresses gives back to C: 18 also for bytes that are not a whole number of words
 unfoldable pub c-list-refusal : Settings → (counters slots addresses results : List ℕ) → ℕ
 c-list-refusal t counters slots addresses results =
     list-refusal t (lent counters (words slots)) (length addresses) (length results)
