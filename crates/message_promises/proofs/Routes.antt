@@ -1,8 +1,8 @@
 -- A message is its single calls, made one after the other, and counts their answers.
 use Prim.Native.Nat.{ℕ, _+_}
-use mathlib.Core.Path.{_≡_, refl, sym, ap, _∙_}
+use mathlib.Core.Path.{_≡_, sym, ap, _∙_}
 use mathlib.Core.Bool.{true}
-use mathlib.Core.List.{List, []}
+use mathlib.Core.List.{List}
 use lib.Dec.{eqb}
 use lib.ListN.{length}
 use lib.Pow.{areBytes}
@@ -11,7 +11,7 @@ use Rattle.rules.specs.Tools.{those}
 use Rattle.rules.specs.Table.{Memory}
 use Rattle.rules.specs.Calls.{Call, all-word-sized, each, run, accepted-of, refused-of}
 use Rattle.message_format.specs.Format.{withdrawn-prefixes, announced-prefixes}
-use Rattle.message_format.specs.Reading.{message-refusal, message-calls, Read, counts, refused-message, apply-message}
+use Rattle.message_format.specs.Reading.{message-refusal, Read, counts, refused-message, apply-message}
 use Rattle.message_format.proofs.Counting.{routes-total}
 use Rattle.message_format.proofs.Words.{message-words}
 use Rattle.promises.specs.History.{SingleCalls}
