@@ -1,0 +1,130 @@
+-- Calls of crates/table as they were made, at their own types, meet the premises: each is written down with its arguments and
+-- what it gave back, and handed to the promises.
+use Prim.Native.Nat.{ℕ, zero, suc}
+use mathlib.Core.Path.{refl}
+use mathlib.Core.List.{List, [], _∷_}
+use native.Mathlib.Omega.{arith}
+use lib.Dec.{lit<}
+use lib.ListN.{replicate}
+use mir.Syntax.{w8, w32}
+use mir.Val.{Val, vint}
+use contract.Lifetimes.{Lfts}
+use denote.Array.{each, arrayVal}
+use denote.Laws.{Is}
+use denote.Ref.{RefT}
+use denote.Shadow.{shadow}
+use denote.Struct.Declared.{row}
+use denote.Struct.Field.{u8-field}
+use denote.Struct.Laws.{val}
+use Rattle.rules.specs.Table.{Memory, clear, add, lookup, answer-words, list-words, listed, fourfold, list-refusal, lookup-list}
+use Rattle.rules.specs.Calls.{Clear, Add}
+use Rattle.rules.proofs.Settings.{the-type}
+use Rattle.rules.proofs.Settings.Laws.{the-laws}
+use Rattle.rules.proofs.Worked.{ip, T}
+use Rattle.promises.specs.History.{stored, History, Stop, Then}
+use Rattle.promises.specs.Demands.{Finds, SaysNone, Words, answer-at}
+use Rattle.promises.proofs.Agree.{sevens, showing}
+use Rattle.promises.proofs.Paper.{route}
+use Rattle.promises.proofs.Matches.{right}
+use Rattle.promises.proofs.Promises.{finds-longest, says-none}
+use Rattle.caller_promises.proofs.Contracts.{Called, ClearCalled, AddCalled, Looked, LookupCalled, looked-given, looked-word, ListCalled, LookupListCalled, place-looked}
+use Rattle.caller_promises.proofs.Callers.{Single, Addresses, served-history}
+
+-- settings T as a struct of six numbers of 32 bits and an array of 32 bytes
+abbrev word : ℕ → List Val
+word n = vint w32 n ∷ []
+
+abbrev fours : List Val
+fours = replicate 32 (vint w8 4)
+
+each-four : (n : ℕ) → shadow (each ℕ (u8-field .row .own) (replicate n 4) (replicate n (vint w8 4)))
+each-four zero = tt
+each-four (suc n) = ((refl, lit< tt), each-four n)
+
+pub settings-good : Is (row the-type) T (val the-type the-laws T ∷ [])
+settings-good = (
+  (word 2, (arrayVal fours ∷ [], (word 1, (word 2, (word 1, (word 2, (word 1, tt))))))),
+  (refl, ((refl, lit< tt), ((fours, ((refl, refl), each-four 32)), ((refl, lit< tt), ((refl, lit< tt), ((refl, lit< tt), ((refl, lit< tt), ((refl, lit< tt), tt)))))))),
+)
+
+-- a list as it is lent
+abbrev pub lending : List ℕ → RefT (List ℕ)
+lending xs = record { ptr = (0, 0); name = 0; now = xs }
+
+abbrev lifetimes : Lfts 2
+lifetimes = ([], ([], tt))
+
+-- the memory cleared, and with 10/8 added
+abbrev pub empty : Memory
+empty = clear T sevens .memory
+
+abbrev one : Memory
+one = add T empty (ip 10 0 0 0) 8 7 .memory
+
+pub clear-called : Called T Clear sevens 0 empty
+unfolding showing
+clear-called = ClearCalled lifetimes (T, (lending (sevens .counters), (lending (sevens .slots), tt))) 0 (T, (lending (empty .counters), (lending (empty .slots), tt)))
+    (settings-good, ((lit< tt, lit< tt), ((lit< tt, lit< tt), tt))) refl
+
+add-called : Called T (Add (ip 10 0 0 0) 8 7) empty 0 one
+unfolding showing
+add-called = AddCalled lifetimes (T, (lending (empty .counters), (lending (empty .slots), (ip 10 0 0 0, (8, (7, tt)))))) 0 (T, (lending (one .counters), (lending (one .slots), (ip 10 0 0 0, (8, (7, tt))))))
+    (settings-good, ((lit< tt, lit< tt), ((lit< tt, lit< tt), ((refl, lit< tt), ((refl, lit< tt), ((refl, lit< tt), tt)))))) refl
+
+-- ---- Lookups
+
+looked : Looked T one (ip 10 2 2 3) (lookup T one (ip 10 2 2 3))
+unfolding showing
+looked = LookupCalled lifetimes (T, (lending (one .counters), (lending (one .slots), (ip 10 2 2 3, tt)))) (lookup T one (ip 10 2 2 3)) (T, (lending (one .counters), (lending (one .slots), (ip 10 2 2 3, tt))))
+    (settings-good, ((lit< tt, lit< tt), ((lit< tt, lit< tt), ((refl, lit< tt), tt)))) refl
+
+-- 10.2.2.3 and 11.0.0.1, and eight words for their results
+abbrev addresses : List ℕ
+addresses = ip 10 2 2 3 ∷ ip 11 0 0 1 ∷ []
+
+abbrev nines : List ℕ
+nines = replicate 8 9
+
+abbrev two-answers : List ℕ
+two-answers = 1 ∷ 7 ∷ 8 ∷ 1 ∷ 0 ∷ 0 ∷ 0 ∷ 0 ∷ []
+
+addresses-sized : Words addresses
+addresses-sized zero inside = lit< tt
+addresses-sized (suc zero) inside = lit< tt
+addresses-sized (suc (suc i)) inside = absurd (omega arith)
+
+list-called : ListCalled T one addresses nines 0 two-answers
+unfolding showing answer-words list-words listed fourfold list-refusal lookup-list
+list-called = LookupListCalled ([], ([], ([], ([], tt))))
+    (T, (lending (one .counters), (lending (one .slots), (lending addresses, (lending nines, tt))))) 0
+    (T, (lending (one .counters), (lending (one .slots), (lending addresses, (lending two-answers, tt)))))
+    (settings-good, ((lit< tt, lit< tt), ((lit< tt, lit< tt), ((lit< tt, lit< tt), ((lit< tt, lit< tt), tt))))) addresses-sized refl
+
+-- seven words are refused with 18, and stay as they were
+list-short : ListCalled T empty addresses (replicate 7 9) 18 (replicate 7 9)
+unfolding showing answer-words list-words listed fourfold list-refusal lookup-list
+list-short = LookupListCalled ([], ([], ([], ([], tt))))
+    (T, (lending (empty .counters), (lending (empty .slots), (lending addresses, (lending (replicate 7 9), tt))))) 18
+    (T, (lending (empty .counters), (lending (empty .slots), (lending addresses, (lending (replicate 7 9), tt)))))
+    (settings-good, ((lit< tt, lit< tt), ((lit< tt, lit< tt), ((lit< tt, lit< tt), ((lit< tt, lit< tt), tt))))) addresses-sized refl
+
+-- ---- A history
+
+-- a table was cleared, and served a list that it refused, an add, and a list that it accepted
+one-served : History T (Add (ip 10 0 0 0) 8 7 ∷ []) (0 ∷ []) one
+one-served = served-history clear-called (Then (Addresses list-short) (Then (Single add-called) (Then (Addresses list-called) Stop)))
+
+-- 10.2.2.3 finds the route,
+looked-met : Finds (lookup T one (ip 10 2 2 3)) (route (ip 10 0 0 0) 8 7)
+unfolding showing
+looked-met = finds-longest one-served (ip 10 2 2 3) (looked-word looked) (route (ip 10 0 0 0) 8 7) (right (ip 10 2 2 3) (stored (Add (ip 10 0 0 0) 8 7 ∷ []) (0 ∷ [])))
+
+-- as the first place of the list does, of which the second says none
+list-found : Finds (answer-at two-answers 0) (route (ip 10 0 0 0) 8 7)
+unfolding showing
+list-found = rw (looked-given (place-looked list-called refl 0 (lit< tt))) looked-met
+
+list-none : SaysNone (answer-at two-answers 1)
+unfolding showing
+list-none = rw (looked-given (place-looked list-called refl 1 (lit< tt)))
+    (says-none one-served (ip 11 0 0 1) (lit< tt) (right (ip 11 0 0 1) (stored (Add (ip 10 0 0 0) 8 7 ∷ []) (0 ∷ []))))
