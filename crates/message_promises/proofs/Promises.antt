@@ -8,14 +8,14 @@ use mathlib.Core.List.{List, [], _++_, append-cancel-left}
 use mathlib.Core.Logic.{_↔_}
 use lib.Pow.{areBytes}
 use Rattle.rules.specs.declared.Settings.{Settings}
-use Rattle.rules.specs.Table.{Memory, refuse, match-vector}
+use Rattle.rules.specs.Table.{Memory, refuse}
 use Rattle.rules.specs.Calls.{Call, Clear, act, run, accepted-of, refused-of}
-use Rattle.rules.proofs.Refusals.{memory-passing, passed}
+use Rattle.rules.proofs.Refusals.{passed}
 use Rattle.message_format.specs.Reading.{Read, apply-message}
 use Rattle.promises.specs.History.{Route, stored, SingleCalls, History, Ran}
 use Rattle.promises.specs.Demands.{Reordered, paper, adds}
 use Rattle.promises.proofs.Histories.{routes-on-paper, one-made, made-append, history-of, history-more, seat-made, more-answers-on-paper, more-routes-on-paper}
-use Rattle.promises.proofs.Promises.{vector-accepted, same-numbers}
+use Rattle.promises.proofs.Promises.{checks-passed, same-numbers}
 use Rattle.message_promises.specs.Heard.{heard-calls, malformed, no-hop, Heard, OneCall, OneMessage}
 use Rattle.message_promises.proofs.Conditions.{message-checks}
 use Rattle.message_promises.proofs.Refused.{its-refusal}
@@ -38,9 +38,7 @@ module _ {t : Settings} {calls : List Call} {answers : List ℕ} {m : Memory} (h
 
   -- It is refused with 12 or 13 alone, by the message and the list of next hops.
   pub message-given : applied .report .refusal ≡ refuse (malformed message) 12 (refuse (no-hop message hops) 13 0)
-  unfolding match-vector
-  message-given = its-refusal t m message hops ∙ message-checks t m message hops
-      ∙ memory-passing t m .accepts (vector-accepted history 0) _
+  message-given = its-refusal t m message hops ∙ message-checks t m message hops ∙ checks-passed history _
 
   -- It is accepted exactly if it is well-formed and what it announces has a hop.
   pub message-accepted : (applied .report .refusal ≡ 0) ↔ ((malformed message ≡ false) × (no-hop message hops ≡ false))
