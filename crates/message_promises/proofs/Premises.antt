@@ -13,15 +13,15 @@ use Rattle.rules.proofs.Worked.{ip, T}
 use Rattle.message_format.specs.Reading.{message-calls, apply-message}
 use Rattle.message_format.specs.Writing.{write-withdrawal}
 use Rattle.message_format.proofs.Worked.{computing as reading}
-use Rattle.promises.specs.History.{Route, on-paper, stored, History, Stop, Then}
+use Rattle.promises.specs.History.{Route, on-paper, stored, History}
 use Rattle.promises.specs.Demands.{some-below, every-below, outside, Finds, First, Nothing, paper, adds}
 use Rattle.promises.proofs.Agree.{sevens, showing}
 use Rattle.promises.proofs.Paper.{route}
 use Rattle.promises.proofs.Matches.{right}
 use Rattle.promises.proofs.Histories.{made, history-of}
 use Rattle.promises.proofs.Promises.{finds-longest}
-use Rattle.message_promises.specs.Heard.{heard-calls, OneCall, OneMessage, bad-prefixes, bad-attributes, bad-from-attributes, bad-parts, malformed, unknown, no-hop}
-use Rattle.message_promises.proofs.Promises.{message-given, message-accepted, message-history, message-numbers, message-accepts, message-refuses, same-reports, heard-stores}
+use Rattle.message_promises.specs.Heard.{heard-calls, bad-prefixes, bad-attributes, bad-from-attributes, bad-parts, malformed, unknown, no-hop}
+use Rattle.message_promises.proofs.Promises.{message-given, message-accepted, message-history, message-numbers, message-accepts, message-refuses, same-reports}
 use Rattle.message_promises.proofs.Written.{written-calls}
 
 -- to unfold this is to unfold all that a message computes with
@@ -121,12 +121,6 @@ module _ {t : Settings} {before : Memory} (worked : Worked t before) where
   same-met : apply-message t (run t empty (adds order) .last) message hops .report ≡ apply-message t m message hops .report
   unfolding all-word-sized run each showing
   same-met = same-reports after (First (route (ip 10 0 0 0) 8 1) Nothing) anew (made t m [] refl) (made t (run t empty (adds order) .last) [] refl) message hops refl
-
-  -- the message and then a withdrawal of what it announced: what is stored follows from the three calls
-  stores-met : stored (calls ++ Withdraw (ip 10 0 0 0) 8 ∷ []) ((7 ∷ 0 ∷ []) ++ act t (Withdraw (ip 10 0 0 0) 8) m .refusal ∷ [])
-      ≡ paper t [] (calls ++ Withdraw (ip 10 0 0 0) 8 ∷ []) .last
-  unfolding word-sized
-  stores-met = rw (heard, given) at (heard-stores before (worked .cleared) (Then (OneMessage message hops refl) (Then (OneCall (Withdraw (ip 10 0 0 0) 8) refl) Stop)))
 
 -- room for 25 bytes takes the withdrawal of 10/8, and reading it is that call
 written-met : (next-hops : List ℕ) → message-calls (write-withdrawal (ip 10 0 0 0) 8 (replicate 25 7) .results) next-hops ≡ Withdraw (ip 10 0 0 0) 8 ∷ []

@@ -1,17 +1,15 @@
 -- What a history has of a message, and what a message and a written withdrawal can be refused for.
 use Prim.Native.Nat.{ℕ, zero, suc, _+_, _/_, _%_}
-use mathlib.Core.Path.{_≡_}
 use mathlib.Core.Bool.{Bool, true, false, cond, not, _&&_, _||_}
 use mathlib.Core.List.{List, [], _∷_, _++_}
 use mathlib.Core.Option.{Option, some, none}
 use lib.Dec.{ltb, leb, eqb}
 use lib.ListN.{length, take, drop, getD}
-use lib.Pow.{areBytes}
 use Rattle.rules.specs.declared.Settings.{Settings}
 use Rattle.rules.specs.Table.{Memory}
-use Rattle.rules.specs.Calls.{Call, word-sized, act, run}
+use Rattle.rules.specs.Calls.{Call}
 use Rattle.message_format.specs.Format.{byte, from-octets, two-bytes, announced-from, message-hop}
-use Rattle.message_format.specs.Reading.{message-calls, apply-message}
+use Rattle.message_format.specs.Reading.{message-calls}
 use Rattle.message_format.specs.Writing.{withdrawal}
 use Rattle.promises.specs.Demands.{Condition, _when_, outside, some-below, every-below, memory-conditions, route-conditions}
 
@@ -20,13 +18,6 @@ use Rattle.promises.specs.Demands.{Condition, _when_, outside, some-below, ever
 -- its single calls; a refused message has none
 unfoldable pub heard-calls : (message hops : List ℕ) (refusal : ℕ) → List Call
 heard-calls message hops refusal = cond (eqb refusal 0) (message-calls message hops) []
-
--- one thing that can be done under settings t, a single call or a message, as a history has it
-pub data Heard (t : Settings) : (m : Memory) (calls : List Call) (answers : List ℕ) (m' : Memory) → Type 0 where
-  OneCall : (call : Call) {m : Memory} → word-sized call ≡ true → Heard t m (call ∷ []) (act t call m .refusal ∷ []) (act t call m .memory)
-  OneMessage : (message hops : List ℕ) {m : Memory} → areBytes message ≡ true
-      → Heard t m (heard-calls message hops (apply-message t m message hops .report .refusal))
-      (run t m (heard-calls message hops (apply-message t m message hops .report .refusal)) .answers) (apply-message t m message hops .memory)
 
 -- ---- The form of a message
 
