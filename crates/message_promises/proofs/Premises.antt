@@ -1,104 +1,128 @@
--- The promises' premises are met: a table under settings T that was cleared and heard one message, computed and handed to
--- the promises. The message withdraws 11/8, which is not stored, and announces 10/8 with the hop of 192.0.2.1.
+-- The promises' premises are met by worked messages, under settings T and under filters of unequal size: what a message is
+-- given is computed, and handed to the promise.
 use Prim.Native.Nat.{ℕ}
-use mathlib.Core.Path.{_≡_, refl}
-use mathlib.Core.List.{List, [], _∷_, _++_, map}
+use mathlib.Core.Path.{_≡_, refl, _∙_}
+use mathlib.Core.List.{List, [], _∷_, _++_}
 use lib.Dec.{lit<}
-use lib.ListN.{replicate}
-use Rattle.rules.specs.Table.{Memory, lookup, c-lookup, bytes-of}
+use lib.ListN.{replicate, take}
+use Rattle.rules.specs.declared.Settings.{Settings}
+use Rattle.rules.specs.Tools.{those}
+use Rattle.rules.specs.Table.{Memory, refuse, lookup}
+use Rattle.rules.specs.Calls.{Call, Clear, Add, Withdraw, word-sized, all-word-sized, act, each, run, accepted-of, refused-of}
 use Rattle.rules.proofs.Worked.{ip, T}
-use Rattle.message_format.specs.declared.Report.{Report}
-use Rattle.message_format.specs.Format.{byte, from-octets, two-bytes, four-bytes, some-starts, starts, bytes-for, octet, address-at, prefix-from, after-prefix, prefix-fits, prefixes-fit, prefixes, extended, type-of, value-from, value-size, after-attribute, attribute-fits, attributes-fit, next-hops, at-most-one, attributes-good, first-hop, next-hop, all-ones, header-good, withdrawn-to, attributes-from, announced-from, parts-fit, withdrawn-prefixes, announced-prefixes, announces, message-hop, contents-good, well-formed}
-use Rattle.message_format.specs.Reading.{place-in, hop-place, is-hop, hop-or-0, hop-in, message-refusal, counting, each, withdrawing, adding, read-routes, counts, apply-message, report-number}
-use Rattle.promises.specs.History.{Add, Withdraw, word-sized, act}
-use Rattle.promises.specs.Demands.{Finds, matches, longest, longer}
-use Rattle.promises.specs.Calls.{Made, on-paper}
+use Rattle.message_format.specs.Reading.{message-calls, apply-message}
+use Rattle.message_format.specs.Writing.{write-withdrawal}
+use Rattle.message_format.proofs.Worked.{computing as reading}
+use Rattle.promises.specs.History.{Route, on-paper, stored, History}
+use Rattle.promises.specs.Demands.{some-below, every-below, outside, Finds, First, Nothing, paper, adds}
+use Rattle.promises.proofs.Agree.{sevens, showing}
 use Rattle.promises.proofs.Paper.{route}
 use Rattle.promises.proofs.Matches.{right}
-use Rattle.promises.proofs.Agree.{sevens, computing}
-use Rattle.promises.proofs.Premises.{settings-good, lending, empty, clear-called}
-use Rattle.message_promises.specs.Heard.{withdrawals, announcements, message-calls, made-by, heard-as, MessageEnsured, HeardServed}
-use Rattle.c_promises.specs.Numbers as c
-use Rattle.c_promises.specs.Numbers.{gateway-refusal}
-use Rattle.c_promises.specs.Calls.{told}
-use Rattle.c_promises.proofs.Promises.{finds-longest as c-finds-longest}
-use Rattle.message_promises.specs.FromC as from-c
-use Rattle.message_promises.specs.FromC.{gateway-accepted, gateway-refused, Sent, as-exported}
-use Rattle.message_promises.proofs.FromC.{served}
-use Rattle.message_promises.proofs.Contracts.{MessageCalled, UpdateCalled, Hearing, Ended, NextMessage, heard-served}
-use Rattle.message_promises.proofs.Promises.{finds-longest}
+use Rattle.promises.proofs.Histories.{made, history-of}
+use Rattle.promises.proofs.Promises.{finds-longest}
+use Rattle.message_promises.specs.Heard.{heard-calls, bad-prefixes, bad-attributes, bad-from-attributes, bad-parts, malformed, unknown, no-hop}
+use Rattle.message_promises.proofs.Promises.{message-given, message-accepted, message-history, message-numbers, message-accepts, message-refuses, same-reports}
+use Rattle.message_promises.proofs.Written.{written-calls}
 
 -- to unfold this is to unfold all that a message computes with
-unfoldable reading : ℕ
-unfolding byte from-octets two-bytes four-bytes some-starts starts bytes-for octet address-at prefix-from after-prefix prefix-fits prefixes-fit prefixes extended type-of value-from value-size after-attribute attribute-fits attributes-fit next-hops at-most-one attributes-good first-hop next-hop all-ones header-good withdrawn-to attributes-from announced-from parts-fit withdrawn-prefixes announced-prefixes announces message-hop contents-good well-formed place-in hop-place is-hop hop-or-0 hop-in message-refusal counting each withdrawing adding read-routes counts apply-message withdrawals announcements message-calls made-by heard-as computing
-reading = 0
+unfoldable hearing : ℕ
+unfolding heard-calls bad-prefixes bad-attributes bad-from-attributes bad-parts malformed unknown no-hop some-below every-below outside paper adds reading showing
+hearing = 0
 
+-- it withdraws 11/8, which is not stored, and announces 10/8 with the hop of 192.0.2.1
 abbrev message : List ℕ
 message = replicate 16 255 ++ (0 ∷ 34 ∷ 2 ∷ 0 ∷ 2 ∷ 8 ∷ 11 ∷ 0 ∷ 7 ∷ 64 ∷ 3 ∷ 4 ∷ 192 ∷ 0 ∷ 2 ∷ 1 ∷ 8 ∷ 10 ∷ [])
 
 abbrev hops : List ℕ
 hops = ip 198 51 100 1 ∷ ip 192 0 2 1 ∷ []
 
-abbrev one : Memory
-one = act T (Add (ip 10 0 0 0) 8 1) empty .memory
+abbrev calls : List Call
+calls = Withdraw (ip 11 0 0 0) 8 ∷ Add (ip 10 0 0 0) 8 1 ∷ []
 
-abbrev report : Report
-report = record { refusal = 0; accepted = 1; refused = 1 }
+its-calls : message-calls message hops ≡ calls
+unfolding hearing
+its-calls = refl
 
--- one route is refused and one accepted
-ensured : MessageEnsured T (empty .counters) (empty .slots) message hops report (one .counters) (one .slots)
-unfolding reading
-ensured = refl
+-- what is computed under settings t, on memory that held anything
+record Worked (t : Settings) (before : Memory) : Type 0 where
+  cleared : act t Clear before .refusal ≡ 0
+  numbers : paper t [] calls .answers ≡ 7 ∷ 0 ∷ []
 
-abbrev log : List Made
-log = record { call = Withdraw (ip 11 0 0 0) 8; given = 7 } ∷ record { call = Add (ip 10 0 0 0) 8 1; given = 0 } ∷ []
+at-T : Worked T sevens
+unfolding hearing
+at-T = record { cleared = refl; numbers = refl }
 
--- the call, with its arguments at their own types
-called : MessageCalled T (empty .counters) (empty .slots) message hops report (one .counters) (one .slots)
-unfolding computing
-called = UpdateCalled ([], ([], ([], ([], tt))))
-    (T, (lending (empty .counters), (lending (empty .slots), (lending message, (lending hops, tt))))) report
-    (T, (lending (one .counters), (lending (one .slots), (lending message, (lending hops, tt)))))
-    (settings-good, ((lit< tt, lit< tt), ((lit< tt, lit< tt), ((lit< tt, lit< tt), ((lit< tt, lit< tt), tt))))) refl ensured
+-- T with other filters: D is 5 at length 8, 6 at 16, 7 at 32, and 4 at the rest
+abbrev U : Settings
+U = record { k = 2; d = replicate 7 4 ++ (5 ∷ replicate 7 4) ++ (6 ∷ replicate 15 4) ++ 7 ∷ []; e = 1; s = 2; a = 1; b = 2; c = 1 }
 
-hearing : Hearing T (empty .counters) (empty .slots) log (one .counters) (one .slots)
-unfolding reading
-hearing = NextMessage message hops report called Ended
+at-U : Worked U (record { counters = replicate 688 7; slots = replicate 257 7 })
+unfolding hearing
+at-U = record { cleared = refl; numbers = refl }
 
-table : HeardServed T log (one .counters) (one .slots)
-table = heard-served clear-called hearing
+module _ {t : Settings} {before : Memory} (worked : Worked t before) where
+  abbrev empty : Memory
+  empty = act t Clear before .memory
 
--- 10.2.2.3 gets the hop of the list's second place
-found-met : Finds (lookup T one (ip 10 2 2 3)) (route (ip 10 0 0 0) 8 1)
-unfolding longest longer matches on-paper computing
-found-met = finds-longest table (ip 10 2 2 3) (lit< tt) _ refl (route (ip 10 0 0 0) 8 1) (right (ip 10 2 2 3) (on-paper [] log))
+  begun : History t [] [] empty
+  unfolding all-word-sized showing
+  begun = history-of before (worked .cleared) (made t empty [] refl)
 
--- ---- From C
+  -- a message cut short is refused with 12, and one with no list of next hops with 13
+  cut-met : apply-message t empty (take 33 message) hops .report .refusal ≡ 12
+  unfolding refuse hearing
+  cut-met = message-given begun (take 33 message) hops
 
-sent : Sent T (empty .counters) (empty .slots) message hops 4097 (one .counters) (one .slots)
-unfolding reading report-number
-sent = record { bytes = refl; crossed = record { number = refl; memory = refl } }
+  no-hop-met : apply-message t empty message [] .report .refusal ≡ 13
+  unfolding refuse hearing
+  no-hop-met = message-given begun message []
 
-c-table : from-c.HeardServed T (map as-exported log) (one .counters) (one .slots)
-unfolding reading gateway-refusal word-sized
-c-table = record {
-  counters-before = sevens .counters;
-  slots-before = sevens .slots;
-  answer = 0;
-  counters-cleared = empty .counters;
-  slots-cleared = empty .slots;
-  cleared = record { word = refl; crossed = record { number = refl; memory = refl } };
-  accepted = refl;
-  heard = from-c.Hear message hops 4097 sent from-c.Stop;
-}
+  -- the whole one is accepted
+  accepted-met : apply-message t empty message hops .report .refusal ≡ 0
+  unfolding hearing
+  accepted-met = message-accepted begun message hops .1 (refl, refl)
 
--- one route is read as accepted and one as refused
-counts-met : (gateway-accepted 4097 ≡ 1) × (gateway-refused 4097 ≡ 1)
-unfolding gateway-accepted gateway-refused
-counts-met = (refl, refl)
+  heard : heard-calls message hops (apply-message t empty message hops .report .refusal) ≡ calls
+  unfolding hearing
+  heard = rw accepted-met its-calls
 
--- the same lookup, as gateway_lookup answers it
-c-found-met : c.Finds (c-lookup T (one .counters) (bytes-of (one .slots)) (ip 10 2 2 3)) (route (ip 10 0 0 0) 8 1)
-unfolding longest longer matches on-paper told gateway-refusal computing
-c-found-met = c-finds-longest (served c-table) (ip 10 2 2 3) _ (record { word = lit< tt; crossed = refl }) (route (ip 10 0 0 0) 8 1)
-    (right (ip 10 2 2 3) (on-paper [] (told (map as-exported log))))
+  -- after it
+  abbrev m : Memory
+  m = apply-message t empty message hops .memory
+
+  given : run t empty calls .answers ≡ 7 ∷ 0 ∷ []
+  unfolding stored on-paper
+  given = rw heard at (message-numbers begun message hops refl) ∙ worked .numbers
+
+  after : History t calls (7 ∷ 0 ∷ []) m
+  after = rw (heard, given) at (message-history begun message hops refl)
+
+  -- one of its routes is refused and one accepted
+  counts-met : (apply-message t empty message hops .report .accepted ≡ 1) × (apply-message t empty message hops .report .refused ≡ 1)
+  unfolding stored on-paper accepted-of refused-of those
+  counts-met = (
+    rw (heard, worked .numbers) at (message-accepts begun message hops refl),
+    rw (heard, worked .numbers) at (message-refuses begun message hops refl),
+  )
+
+  -- 10.2.2.3 gets the hop of the list's second place
+  found-met : Finds (lookup t m (ip 10 2 2 3)) (route (ip 10 0 0 0) 8 1)
+  unfolding showing
+  found-met = finds-longest after (ip 10 2 2 3) (lit< tt) (route (ip 10 0 0 0) 8 1) (right (ip 10 2 2 3) (stored calls (7 ∷ 0 ∷ [])))
+
+  -- a table newly cleared, to which 10/8 is added, gives the message the same report
+  abbrev order : List Route
+  order = route (ip 10 0 0 0) 8 1 ∷ []
+
+  anew : History t (adds order) (run t empty (adds order) .answers) (run t empty (adds order) .last)
+  unfolding adds all-word-sized word-sized
+  anew = history-of before (worked .cleared) (made t empty (adds order) refl)
+
+  same-met : apply-message t (run t empty (adds order) .last) message hops .report ≡ apply-message t m message hops .report
+  unfolding all-word-sized run each showing
+  same-met = same-reports after (First (route (ip 10 0 0 0) 8 1) Nothing) anew (made t m [] refl) (made t (run t empty (adds order) .last) [] refl) message hops refl
+
+-- room for 25 bytes takes the withdrawal of 10/8, and reading it is that call
+written-met : (next-hops : List ℕ) → message-calls (write-withdrawal (ip 10 0 0 0) 8 (replicate 25 7) .results) next-hops ≡ Withdraw (ip 10 0 0 0) 8 ∷ []
+unfolding hearing
+written-met = written-calls (ip 10 0 0 0) 8 (lit< tt) (replicate 25 7) refl

@@ -11,9 +11,10 @@ use Rattle.rules.specs.declared.Answer.{Answer}
 use Rattle.rules.specs.Tools.{those}
 use Rattle.rules.specs.Table.{Memory, claims, bits-where, vector-of, down-from, bit-set, set-bits, search as searched, route-answer, default-answer, place-answer, refused, answer-of, lookup, one-if}
 use Rattle.rules.proofs.Worked.{ip, T, computing as rules-computing}
-use Rattle.promises.specs.History.{Call, Add, Withdraw, word-sized, all-word-sized, act, ask, about, without, with-hop, written, noted, Acting, next-by, after-by, history-by}
+use Rattle.rules.specs.Calls.{Call, Add, Withdraw, word-sized, all-word-sized, act, each, run}
+use Rattle.promises.specs.History.{about, without, with-hop, written, noted, on-paper, stored}
 use Rattle.promises.specs.Demands.{number-given, needs-place, add-number, withdraw-number, change-number, exists, sum, number, crowded, beside, landings, overflows, matches, marks, covered, probes-down-to, longest, longer}
-use Rattle.promises.specs.Programs.{Asking}
+use Rattle.promises.specs.Programs.{Acting, Asking, run-by, history-by, our-calls, our-lookups}
 use Rattle.promises.proofs.Matches.{answer-by}
 
 -- lent memory that held sevens, of the sizes of T and of Z
@@ -29,8 +30,8 @@ Z = record { k = 5; d = replicate 32 4; e = 0; s = 4; a = 0; b = 0; c = 0 }
 -- after the calls, one more is given the number that is due
 unfoldable pub right-number : Settings → Acting → List Call → Call → Bool
 right-number t acting calls call =
-    let s = history-by acting t sevens calls in
-    eqb (acting t call (s .memory) .refusal) (number-given t (s .routes) call)
+    let ran = history-by acting t sevens calls in
+    eqb (acting t call (ran .last) .refusal) (number-given t (stored calls (ran .answers)) call)
 
 -- two answers are the same
 unfoldable pub same-answers : Answer → Answer → Bool
@@ -42,8 +43,9 @@ same-answers one other =
 -- after the calls, a lookup has the answer that is due
 unfoldable pub right-answer : Settings → Acting → Asking → List Call → (address : ℕ) → Bool
 right-answer t acting asking calls address =
-    let s = history-by acting t sevens calls in
-    same-answers (asking t address (s .memory)) (answer-by t (s .routes) address (longest address (s .routes)))
+    let ran = history-by acting t sevens calls in
+    let routes = stored calls (ran .answers) in
+    same-answers (asking t (ran .last) address) (answer-by t routes address (longest address routes))
 
 -- ---- The histories
 
@@ -72,12 +74,12 @@ four-then-one = three ++ Add 4 32 1 ∷ Withdraw 1 32 ∷ Withdraw 2 32 ∷ With
 
 -- to unfold this is to unfold all that a history computes with
 unfoldable pub computing : ℕ
-unfolding rules-computing act about without with-hop written noted next-by after-by history-by
+unfolding rules-computing act each run run-by history-by about without with-hop written noted on-paper stored
 computing = 0
 
 -- and this, all that is due and all that a lookup computes with
 unfoldable pub showing : ℕ
-unfolding right-number right-answer same-answers add-8 add-16 pair again three four-then-one word-sized all-word-sized number-given needs-place add-number withdraw-number change-number exists sum number crowded beside landings overflows matches marks covered probes-down-to longest longer answer-by ask lookup answer-of refused place-answer route-answer default-answer searched set-bits bit-set vector-of bits-where claims down-from those one-if computing
+unfolding right-number right-answer same-answers add-8 add-16 pair again three four-then-one word-sized all-word-sized number-given needs-place add-number withdraw-number change-number exists sum number crowded beside landings overflows matches marks covered probes-down-to longest longer answer-by our-calls our-lookups lookup answer-of refused place-answer route-answer default-answer searched set-bits bit-set vector-of bits-where claims down-from those one-if computing
 showing = 0
 
 -- ---- Ours
@@ -90,16 +92,16 @@ every (right ∷ others) = right && every others
 -- as numbers-given says
 numbers-agree :
     every (
-    right-number T act [] add-8
-    ∷ right-number T act (add-8 ∷ []) (Withdraw (ip 10 0 0 0) 8)
-    ∷ right-number T act (add-8 ∷ []) add-8
-    ∷ right-number T act (add-8 ∷ add-16 ∷ []) (Withdraw (ip 10 1 0 0) 16)
-    ∷ right-number T act pair (Add (ip 8 0 0 0) 8 6)
-    ∷ right-number T act (add-8 ∷ Withdraw (ip 10 0 0 0) 8 ∷ []) (Withdraw (ip 10 0 0 0) 8)
-    ∷ right-number T act pair (Withdraw (ip 10 0 0 0) 8)
-    ∷ right-number Z act three (Add 4 32 1)
-    ∷ right-number Z act three (Add 3 32 6)
-    ∷ right-number T act (again ++ Withdraw (ip 10 0 0 0) 8 ∷ []) (Withdraw (ip 10 0 0 0) 8)
+    right-number T our-calls [] add-8
+    ∷ right-number T our-calls (add-8 ∷ []) (Withdraw (ip 10 0 0 0) 8)
+    ∷ right-number T our-calls (add-8 ∷ []) add-8
+    ∷ right-number T our-calls (add-8 ∷ add-16 ∷ []) (Withdraw (ip 10 1 0 0) 16)
+    ∷ right-number T our-calls pair (Add (ip 8 0 0 0) 8 6)
+    ∷ right-number T our-calls (add-8 ∷ Withdraw (ip 10 0 0 0) 8 ∷ []) (Withdraw (ip 10 0 0 0) 8)
+    ∷ right-number T our-calls pair (Withdraw (ip 10 0 0 0) 8)
+    ∷ right-number Z our-calls three (Add 4 32 1)
+    ∷ right-number Z our-calls three (Add 3 32 6)
+    ∷ right-number T our-calls (again ++ Withdraw (ip 10 0 0 0) 8 ∷ []) (Withdraw (ip 10 0 0 0) 8)
     ∷ []
     ) ≡ true
 unfolding every showing
@@ -108,13 +110,13 @@ numbers-agree = refl
 -- as finds-longest, says-none and probes-counted say
 answers-agree :
     every (
-    right-answer T act ask [] 0
-    ∷ right-answer T act ask (add-8 ∷ []) (ip 10 2 2 3)
-    ∷ right-answer T act ask (add-8 ∷ add-16 ∷ []) (ip 10 2 2 3)
-    ∷ right-answer T act ask again (ip 10 2 2 3)
-    ∷ right-answer T act ask (again ++ Withdraw (ip 10 0 0 0) 8 ∷ []) (ip 10 2 2 3)
-    ∷ right-answer T act ask (pair ++ Withdraw (ip 8 0 0 0) 8 ∷ []) (ip 10 2 2 3)
-    ∷ right-answer Z act ask four-then-one 4
+    right-answer T our-calls our-lookups [] 0
+    ∷ right-answer T our-calls our-lookups (add-8 ∷ []) (ip 10 2 2 3)
+    ∷ right-answer T our-calls our-lookups (add-8 ∷ add-16 ∷ []) (ip 10 2 2 3)
+    ∷ right-answer T our-calls our-lookups again (ip 10 2 2 3)
+    ∷ right-answer T our-calls our-lookups (again ++ Withdraw (ip 10 0 0 0) 8 ∷ []) (ip 10 2 2 3)
+    ∷ right-answer T our-calls our-lookups (pair ++ Withdraw (ip 8 0 0 0) 8 ∷ []) (ip 10 2 2 3)
+    ∷ right-answer Z our-calls our-lookups four-then-one 4
     ∷ []
     ) ≡ true
 unfolding every showing

@@ -1,6 +1,6 @@
 -- Part of what a table stores is stored with room for the rest: every condition on routes is a sum, and a part's sums are no more than the whole's.
 use Prim.Native.Nat.{ℕ, _+_, _^_, _≤_, _<_}
-use mathlib.Core.Path.{_≡_, refl, sym, ap, ap₂, _∙_}
+use mathlib.Core.Path.{_≡_, refl, sym, _∙_}
 use mathlib.Core.Bool.{Bool, true, false, cond, not}
 use mathlib.Core.List.{List, [], _∷_}
 use native.Mathlib.Nat.{add-zero}
@@ -9,19 +9,18 @@ use lib.Dec.{eqb, ltb}
 use borrow.Author.Tests.{eq-eqb, ne-eqb, lt-ltb, le-ltb}
 use Rattle.rules.specs.declared.Settings.{Settings}
 use Rattle.rules.specs.Tools.{all, count}
-use Rattle.rules.specs.Table.{prefix, positions, bucket, Memory, unless-refused, add}
+use Rattle.rules.specs.Table.{prefix, positions, bucket, Memory}
 use Rattle.rules.specs.Ready.{Ready}
-use Rattle.rules.proofs.Members.{both, any-none}
-use Rattle.promises.specs.History.{Route, Call, Clear, Add, Withdraw, Change, word-sized, all-word-sized, act, written, noted, State, next, after, about, without, next-by, after-by}
-use Rattle.promises.specs.Demands.{sum, number, exists, beside, crowded, landings, overflows, add-number, adds, refusals}
-use Rattle.promises.proofs.Sums.{by-cases, weight-within, none-exists}
-use Rattle.promises.proofs.Paper.{route, without-none, sum-without, sum-with-hop}
+use Rattle.rules.proofs.Members.{any-none}
+use Rattle.rules.specs.Calls.{Call, Add, word-sized, each}
+use Rattle.promises.specs.History.{Route, written, noted, about}
+use Rattle.promises.specs.Demands.{sum, number, exists, beside, crowded, landings, overflows, add-number, number-given, paper, adds}
+use Rattle.promises.proofs.Sums.{weight-within, none-exists}
+use Rattle.promises.proofs.Paper.{without-none}
 use Rattle.promises.proofs.Buckets.{in-bucket, in-default, beside-few}
 use Rattle.promises.proofs.Counters.{lands}
 use Rattle.promises.proofs.Kept.{Kept, Fit, fit, fit-says, ready}
-use Rattle.promises.proofs.Refusals.{number-by-routes, add-by-routes}
 use Rattle.promises.proofs.Numbers.{add-accepted}
-use Rattle.promises.proofs.Histories.{kept-next}
 
 -- the same routes, as far as any weight tells
 abbrev pub Same : (one other : List Route) → Type 0
@@ -103,75 +102,35 @@ module _ {t : Settings} {routes : List Route} {m : Memory} (kept : Kept t routes
     room = λ absent. room;
   })
 
+  -- the call that adds it
+  abbrev call : Call
+  call = Add (r .prefix) (r .length) (r .hop)
+
+  zero-given : number-given t some call ≡ 0
+  unfolding number-given
+  zero-given = next-accepted (r .hop) (next-fit .hop-high)
+
+  noted-down : noted call (number-given t some call) some ≡ r ∷ some
+  unfolding noted written
+  noted-down = rw (zero-given, without-none (r .prefix) (r .length) some absent)
+
 -- ---- Added anew
 
--- what is left to add is accepted, and then all is there
-pub record Anew (t : Settings) (s : State) (more routes : List Route) : Type 0 where
-  pub accepted : all (λ n. eqb n 0) (refusals t s (adds more)) ≡ true
-  pub kept : Kept t (after t s (adds more) .routes) (after t s (adds more) .memory)
-  pub same : Same (after t s (adds more) .routes) routes
-
-accepts : {t : Settings} {routes : List Route} {m : Memory} → Kept t routes m → (r : Route) → r .prefix < 2 ^ 32
-    → add-number t routes (r .prefix) (r .length) (r .hop) ≡ 0 → act t (Add (r .prefix) (r .length) (r .hop)) m .refusal ≡ 0
-unfolding act add unless-refused
-accepts kept r word h = add-by-routes kept (r .prefix) (r .length) (r .hop) word ∙ h
+-- what is left to add is accepted on paper, and then all is there
+pub record Anew (t : Settings) (there more routes : List Route) : Type 0 where
+  pub accepted : all (λ n. eqb n 0) (paper t there (adds more) .answers) ≡ true
+  pub same : Same (paper t there (adds more) .last) routes
 
 pub sized : (r : Route) → r .prefix < 2 ^ 32 → word-sized (Add (r .prefix) (r .length) (r .hop)) ≡ true
 unfolding word-sized
 sized r word = lt-ltb (r .prefix) (2 ^ 32) word
 
-noted-down : (t : Settings) (s : State) (r : Route) → exists (about (r .prefix) (r .length)) (s .routes) ≡ false
-    → act t (Add (r .prefix) (r .length) (r .hop)) (s .memory) .refusal ≡ 0
-    → next t s (Add (r .prefix) (r .length) (r .hop)) .routes ≡ r ∷ s .routes
-unfolding next-by noted written
-noted-down t s r absent e = rw (e, without-none (r .prefix) (r .length) (s .routes) absent)
-
-pub anew : {t : Settings} {routes : List Route} {m : Memory} → Kept t routes m → (s : State) (more : List Route) → Kept t (s .routes) (s .memory)
-    → Parted (s .routes) more routes → Anew t s more routes
-unfolding refusals adds after-by all sum
-anew kept s [] there parted = record {
-  accepted = refl;
-  kept = there;
-  same = λ weight. sym (add-zero (sum weight (s .routes))) ∙ parted weight;
-}
-anew {t} kept s (r ∷ more) there parted =
-    let its = next-fit kept (s .routes) more r parted in
-    let call = Add (r .prefix) (r .length) (r .hop) in
-    let zero-given = accepts there r (its .word) (next-accepted kept (s .routes) more r parted (r .hop) (its .hop-high)) in
-    let rest = anew kept (next t s call) more (kept-next there call (sized r (its .word)))
-    (λ weight. rw (noted-down t s r (absent kept (s .routes) more r parted) zero-given) (omega (arith, parted weight))) in
-    record { accepted = rw zero-given (rest .accepted); kept = rest .kept; same = rest .same }
-
--- ---- And from then on
-
-noted-same : (call : Call) (refusal : ℕ) (one other : List Route) → Same one other → Same (noted call refusal one) (noted call refusal other)
-unfolding noted written sum
-noted-same call refusal one other same = by-cases (eqb refusal 0) (λ e. rw e (go call)) (λ e. rw e same)
-  where
-    gone : (p L : ℕ) → Same (without p L one) (without p L other)
-    gone p L weight =
-        omega (arith, sum-without p L weight one, sum-without p L weight other, same weight, same (λ r. cond (about p L r) (weight r) 0))
-
-    go : (call : Call) → Same (written call one) (written call other)
-    go Clear weight = refl
-    go (Add p L hop) weight = ap (λ (n : ℕ). weight (route p L hop) + n) (gone p L weight)
-    go (Withdraw p L) weight = gone p L weight
-    go (Change p L hop) weight =
-        omega (arith, sum-with-hop p L hop weight one, sum-with-hop p L hop weight other, same weight, same (λ r. cond (about p L r) (weight r) 0), same (λ r. cond (about p L r) (weight (route p L hop)) 0))
-
--- two tables that are kept for the same routes are given the same numbers, and are kept for the same routes after
-pub record Alike (t : Settings) (s u : State) (calls : List Call) : Type 0 where
-  pub given : refusals t s calls ≡ refusals t u calls
-  pub same : Same (after t s calls .routes) (after t u calls .routes)
-
-pub alike : {t : Settings} {s u : State} → Same (s .routes) (u .routes) → Kept t (s .routes) (s .memory) → Kept t (u .routes) (u .memory)
-    → (calls : List Call) → all-word-sized calls ≡ true → Alike t s u calls
-unfolding refusals after-by all-word-sized next-by
-alike same one other [] sized = record { given = refl; same = same }
-alike {t} {s} {u} same one other (call ∷ calls) sized =
-    let parts = both (word-sized call) (all-word-sized calls) sized in
-    let given : act t call (s .memory) .refusal ≡ act t call (u .memory) .refusal =
-    number-by-routes one call (parts .0) ∙ sym (number-by-routes (kept-same (λ weight. sym (same weight)) other) call (parts .0)) in
-    let rest = alike {s = next t s call} {u = next t u call} (rw given (noted-same call (act t call (u .memory) .refusal) (s .routes) (u .routes) same))
-    (kept-next one call (parts .0)) (kept-next other call (parts .0)) calls (parts .1) in
-    record { given = ap₂ _∷_ given (rest .given); same = rest .same }
+pub anew : {t : Settings} {routes : List Route} {m : Memory} → Kept t routes m → (there more : List Route) → Parted there more routes → Anew t there more routes
+unfolding paper each adds all sum
+anew kept there [] parted = record { accepted = refl; same = λ weight. sym (add-zero (sum weight there)) ∙ parted weight }
+anew {t} kept there (r ∷ more) parted =
+    let rest = anew kept (r ∷ there) more (λ weight. omega (arith, parted weight)) in
+    record {
+      accepted = rw (noted-down kept there more r parted, zero-given kept there more r parted) (rest .accepted);
+      same = λ weight. rw (noted-down kept there more r parted, sum) (rest .same weight);
+    }

@@ -15,7 +15,8 @@ use Rattle.rules.specs.Tools.{all, those}
 use Rattle.rules.specs.Table.{bucket, in-range, prefix, positions, Memory, lookup, down-from}
 use Rattle.rules.proofs.Members.{both}
 use Rattle.rules.proofs.Placing.{ranges, positions-length}
-use Rattle.promises.specs.History.{Route, Call, Add, Withdraw, word-sized, act, written, noted, without, next-by}
+use Rattle.rules.specs.Calls.{Call, Add, Withdraw, word-sized, act}
+use Rattle.promises.specs.History.{Route, written, noted, without}
 use Rattle.promises.specs.Demands.{Finds, SaysNone, number, beside, number-given, Stored, sum, exists, matches, crowded, add-number, Longest, NoMatch, marks, covered, probes-down-to, in-use, lengths-in-use, longest}
 use Rattle.promises.proofs.Sums.{exists-there, exists-one}
 use Rattle.promises.proofs.Paper.{route, worth, stored-route, paper-withdrawn}
@@ -104,8 +105,8 @@ module _ {t : Settings} {routes : List Route} {m : Memory} (kept : Kept t routes
 
   -- what an accepted withdrawal leaves
   withdrawn-kept : (p L : ℕ) → p < 2 ^ 32 → act t (Withdraw p L) m .refusal ≡ 0 → Kept t (without p L routes) (act t (Withdraw p L) m .memory)
-  unfolding next-by noted written word-sized
-  withdrawn-kept p L word e = rw e at (kept-next {s = record { memory = m; routes = routes }} kept (Withdraw p L) (lt-ltb p (2 ^ 32) word))
+  unfolding noted written word-sized
+  withdrawn-kept p L word e = rw e at (kept-next kept (Withdraw p L) (lt-ltb p (2 ^ 32) word))
 
   -- an accepted withdrawal takes one stored route away
   record Freed (p L : ℕ) : Type 0 where

@@ -16,7 +16,7 @@ use Rattle.rules.specs.Table.{list-in-range, in-range, Memory, counters-size, s
 use Rattle.rules.proofs.Members.{both}
 use Rattle.rules.proofs.Prefixes.{loose-low}
 use Rattle.rules.proofs.Refusals.{memory-order, add-order, withdraw-order, change-order}
-use Rattle.promises.specs.History.{Call, Clear, Add, Withdraw, Change, act}
+use Rattle.rules.specs.Calls.{Call, Clear, Add, Withdraw, Change, act}
 use Rattle.promises.specs.Demands.{Condition, outside, list-outside, some-below, every-below, there, no-slot-left, memory-conditions, route-conditions, conditions, list-conditions, NoneMet, FirstMet}
 use Rattle.promises.proofs.Sums.{by-cases}
 

@@ -12,7 +12,8 @@ use Rattle.rules.specs.declared.Settings.{Settings}
 use Rattle.rules.specs.Table.{prefix, loose, refuse, from-1}
 use Rattle.rules.proofs.Prefixes.{loose-false}
 use Rattle.rules.proofs.Refusals.{passed}
-use Rattle.promises.specs.History.{Route, Call, Clear, Add, Withdraw, Change, about}
+use Rattle.rules.specs.Calls.{Call, Clear, Add, Withdraw, Change}
+use Rattle.promises.specs.History.{Route, about}
 use Rattle.promises.specs.Demands.{exists, crowded, overflows, needs-place, add-number, withdraw-number, change-number, number-given}
 use Rattle.promises.proofs.Sums.{by-cases}
 

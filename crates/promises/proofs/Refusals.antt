@@ -11,7 +11,8 @@ use Rattle.rules.specs.declared.Settings.{Settings}
 use Rattle.rules.specs.Table.{unless-refused, clear, add, withdraw, change, prefix, Memory, sized, default-mark, occupied, stored, loose, refuse, from-1, memory-refusal, add-refusal, withdraw-refusal, change-refusal}
 use Rattle.rules.proofs.Refusals.{fits as no-refusal, add-order, withdraw-order, change-order}
 use Rattle.rules.proofs.Prefixes.{prefix-zero, loose-false}
-use Rattle.promises.specs.History.{Call, Clear, Add, Withdraw, Change, Route, word-sized, act, about}
+use Rattle.rules.specs.Calls.{Call, Clear, Add, Withdraw, Change, word-sized, act}
+use Rattle.promises.specs.History.{Route, about}
 use Rattle.promises.specs.Demands.{number-given, exists, needs-place, add-number, withdraw-number, change-number}
 use Rattle.promises.proofs.Sums.{by-cases, exists-there, exists-one, none-exists}
 use Rattle.promises.proofs.Buckets.{held-exists, full-crowded, default-stored, default-free}

@@ -4,7 +4,7 @@
 use Prim.Native.Nat.{ℕ, _≤_}
 use mathlib.Core.Path.{_≡_, refl, sym, ap, _∙_}
 use mathlib.Core.Bool.{Bool, true, false, cond, not}
-use mathlib.Core.List.{List, [], _∷_, map}
+use mathlib.Core.List.{List, map}
 use mathlib.Core.Logic.{_↔_, _≢_}
 use mathlib.Core.Option.{some}
 use lib.Dec.{eqb, lit≤}
@@ -14,11 +14,11 @@ use Rattle.rules.specs.declared.Settings.{Settings}
 use Rattle.rules.specs.declared.Place.{Place}
 use Rattle.rules.specs.declared.Place.the-variants.{At, Absent}
 use Rattle.rules.specs.Tools.{all}
-use Rattle.rules.specs.Table.{Memory, lent, slot-number, mark-word, default-word, mark-of, held, needs-slot, memory-refusal, change-refusal, changed, unless-refused, clear, add, withdraw, change, match-vector, route-answer, default-answer, place-answer, refused, answer-of, lookup, listed, lookup-list}
+use Rattle.rules.specs.Table.{Memory, lent, slot-number, mark-word, default-word, mark-of, held, needs-slot, memory-refusal, change-refusal, changed, unless-refused, clear, add, withdraw, change, match-vector, route-answer, default-answer, place-answer, refused, answer-of, lookup}
 use Rattle.rules.proofs.Updates.{default-in-place, stored-in-place, held-is-stored, added-in-place, changed-default, changed-mark, changed-counters, add-is-change}
-use Rattle.promises.specs.History.{Call, Clear, Add, Withdraw, Change, act, ask, ask-vector}
-use Rattle.promises.specs.Demands.{there, memory-conditions, route-conditions, conditions, numbers-by, list-conditions, NoneMet, FirstMet}
-use Rattle.promises.proofs.Conditions.{given-exactly, never-given, none-exactly, stored-there, memory-first, call-first, list-first, memory-numbered, call-numbered, list-numbered}
+use Rattle.rules.specs.Calls.{Call, Clear, Add, Withdraw, Change, act}
+use Rattle.promises.specs.Demands.{there, memory-conditions, route-conditions, conditions, numbers-by, NoneMet, FirstMet}
+use Rattle.promises.proofs.Conditions.{given-exactly, never-given, none-exactly, stored-there, memory-first, call-first, memory-numbered, call-numbered}
 use Rattle.promises.proofs.Sums.{by-cases}
 
 module _ (t : Settings) (call : Call) (m : Memory) where
@@ -104,53 +104,33 @@ unfolding place-answer route-answer default-answer
 place-accepted t slots ones (At n L probes) = refl
 place-accepted t slots ones Absent = refl
 
-module _ (t : Settings) (address : ℕ) (m : Memory) where
-  pub lookup-checks : ask t address m .refusal ≡ memory-refusal t m 0
-  unfolding ask lookup refused answer-of
+module _ (t : Settings) (m : Memory) (address : ℕ) where
+  pub lookup-checks : lookup t m address .refusal ≡ memory-refusal t m 0
+  unfolding lookup refused answer-of
   lookup-checks = by-cases (eqb (memory-refusal t m 0) 0)
       (λ good. rw good (place-accepted t (m .slots) _ _ ∙ sym (eqb-true _ 0 good))) (λ bad. rw bad)
 
   -- A lookup is given 1 or 2 exactly so, by the settings and the sizes alone, and no other number.
-  pub lookup-number : (n : ℕ) → 1 ≤ n → (ask t address m .refusal ≡ n) ↔ FirstMet n (memory-conditions t m)
+  pub lookup-number : (n : ℕ) → 1 ≤ n → (lookup t m address .refusal ≡ n) ↔ FirstMet n (memory-conditions t m)
   lookup-number = given-exactly (memory-conditions t m) (lookup-checks ∙ memory-first t m)
 
-  pub lookup-accepted-exactly : (ask t address m .refusal ≡ 0) ↔ NoneMet (memory-conditions t m)
+  pub lookup-accepted-exactly : (lookup t m address .refusal ≡ 0) ↔ NoneMet (memory-conditions t m)
   lookup-accepted-exactly = none-exactly (memory-conditions t m) (lookup-checks ∙ memory-first t m) (memory-numbered t m)
 
   -- Where it is refused, found is false and every other number is zero.
-  pub lookup-refused : ask t address m .refusal ≢ 0 → ask t address m ≡ refused (ask t address m .refusal)
-  unfolding ask lookup refused
+  pub lookup-refused : lookup t m address .refusal ≢ 0 → lookup t m address ≡ refused (lookup t m address .refusal)
+  unfolding lookup refused
   lookup-refused bad = rw (ne-eqb _ 0 (λ good. bad (lookup-checks ∙ good)))
 
   -- So it is with the match vector.
-  pub vector-number : (n : ℕ) → 1 ≤ n → (ask-vector t address m .refusal ≡ n) ↔ FirstMet n (memory-conditions t m)
-  unfolding ask-vector match-vector
+  pub vector-number : (n : ℕ) → 1 ≤ n → (match-vector t m address .refusal ≡ n) ↔ FirstMet n (memory-conditions t m)
+  unfolding match-vector
   vector-number = given-exactly (memory-conditions t m) (memory-first t m)
 
-  pub vector-accepted-exactly : (ask-vector t address m .refusal ≡ 0) ↔ NoneMet (memory-conditions t m)
-  unfolding ask-vector match-vector
+  pub vector-accepted-exactly : (match-vector t m address .refusal ≡ 0) ↔ NoneMet (memory-conditions t m)
+  unfolding match-vector
   vector-accepted-exactly = none-exactly (memory-conditions t m) (memory-first t m) (memory-numbered t m)
 
-  pub vector-refused : ask-vector t address m .refusal ≢ 0 → ask-vector t address m .vector ≡ 0
-  unfolding ask-vector match-vector
+  pub vector-refused : match-vector t m address .refusal ≢ 0 → match-vector t m address .vector ≡ 0
+  unfolding match-vector
   vector-refused bad = rw (ne-eqb _ 0 bad)
-
-module _ (t : Settings) (m : Memory) (addresses results : List ℕ) where
-  -- A list of addresses is given a number exactly if its condition is met and none is of those before it in the list.
-  pub list-number : (n : ℕ) → 1 ≤ n → (lookup-list t m addresses results .refusal ≡ n) ↔ FirstMet n (list-conditions t m addresses results)
-  unfolding lookup-list listed
-  list-number = given-exactly (list-conditions t m addresses results) (list-first t m addresses results)
-
-  pub list-accepted-exactly : (lookup-list t m addresses results .refusal ≡ 0) ↔ NoneMet (list-conditions t m addresses results)
-  unfolding lookup-list listed
-  list-accepted-exactly = none-exactly (list-conditions t m addresses results) (list-first t m addresses results) (list-numbered t m addresses results)
-
-  -- These are its numbers, in that order.
-  pub list-numbers-listed : map (λ c. c .number) (list-conditions t m addresses results) ≡ 1 ∷ 2 ∷ 18 ∷ []
-  unfolding list-conditions memory-conditions
-  list-numbers-listed = refl
-
-  -- Where it is refused, every result is left as it was.
-  pub list-refused : lookup-list t m addresses results .refusal ≢ 0 → lookup-list t m addresses results .results ≡ results
-  unfolding lookup-list listed
-  list-refused bad = rw (ne-eqb _ 0 bad)

@@ -14,7 +14,8 @@ use Rattle.rules.specs.declared.Settings.{Settings}
 use Rattle.rules.specs.Tools.{all, any, those}
 use Rattle.rules.specs.Table.{prefix, positions, Memory, stored, lookup, match-vector, bits-where, down-from}
 use Rattle.rules.proofs.Updates.{add-is-change}
-use Rattle.promises.specs.History.{Route, Add, Change, act, about, with-hop, word-sized, written, noted, next-by}
+use Rattle.rules.specs.Calls.{Add, Change, act, word-sized}
+use Rattle.promises.specs.History.{Route, about, with-hop, written, noted}
 use Rattle.promises.specs.Demands.{Stored, exists, matches, Longest, longer, longest, Finds, SameButHop, number-given, marks, covered, probes-down-to}
 use Rattle.promises.proofs.Sums.{by-cases, exists-there}
 use Rattle.promises.proofs.Paper.{route, own-about, about-true}
@@ -120,9 +121,9 @@ module _ {t : Settings} {routes : List Route} {m : Memory} (kept : Kept t routes
   changes = add-is-change t m (r .prefix) (r .length) hop (stored-exists kept (r .prefix) (r .length) (its .high) (its .tight) (its .word) ∙ listed)
 
   kept-again : Kept t (with-hop (r .prefix) (r .length) hop routes) then
-  unfolding next-by noted written word-sized
+  unfolding noted written word-sized
   kept-again = rw (ap (λ u. u .memory) changes)
-      (rw (sym (ap (λ u. u .refusal) changes) ∙ again-accepted) at (kept-next {s = record { memory = m; routes = routes }} kept (Change (r .prefix) (r .length) hop) word-in))
+      (rw (sym (ap (λ u. u .refusal) changes) ∙ again-accepted) at (kept-next kept (Change (r .prefix) (r .length) hop) word-in))
 
   -- a route about the same prefix and length is as long, and matches as well
   same-longest : {address : ℕ} (q : Route) → about (r .prefix) (r .length) q ≡ true → Longest address routes q → Longest address routes r

@@ -12,26 +12,31 @@ use lib.ListN.{length, take, set}
 use borrow.Author.Tests.{eqb-true, eq-eqb, ltb-true}
 use Rattle.rules.specs.declared.Settings.{Settings}
 use Rattle.rules.specs.Tools.{any, those}
-use Rattle.rules.specs.Table.{Memory, Outcome, lent, left, default-word, default-mark, mark-of, slot-number, counter-places, vacant, stored, from-1, full, with-slot, with-found, unless-refused, step-each, added, clear, add, withdraw, change, hits, vector-of, down-from, set-bits, search as searched, default-answer, place-answer, one-if}
+use Rattle.rules.specs.Table.{Memory, Outcome, lent, left, default-word, default-mark, mark-of, slot-number, counter-places, vacant, stored, from-1, full, with-slot, with-found, unless-refused, step-each, added, clear, add, withdraw, change, hits, vector-of, down-from, set-bits, search as searched, default-answer, place-answer, lookup, one-if}
 use Rattle.rules.proofs.Members.{both}
-use Rattle.promises.specs.History.{Route, Call, Clear, Add, Withdraw, Change, word-sized, all-word-sized, act, ask, Acting}
+use Rattle.rules.specs.Calls.{Call, Clear, Add, Withdraw, Change, word-sized, all-word-sized, act, run}
+use Rattle.promises.specs.History.{Route}
 use Rattle.promises.specs.Demands.{probes-down-to, longest}
-use Rattle.promises.specs.Programs.{Asking, Promised, Honest}
+use Rattle.promises.specs.Programs.{Acting, Asking, run-by, history-by, Promised, Honest, our-calls, our-lookups, with-clear, with-add, with-withdraw, with-change, with-probes}
 use Rattle.promises.proofs.Matches.{answer-by, Right, right}
 use Rattle.rules.proofs.Worked.{ip, T}
 use Rattle.promises.proofs.Agree.{sevens, Z, right-number, same-answers, right-answer, add-8, add-16, pair, again, four-then-one, showing}
+use Rattle.promises.proofs.Histories.{made, history-of}
 use Rattle.promises.proofs.Promises as promise
 
 -- The calls of the rules are not among them: they keep the promises.
-pub honest : Honest act ask
+pub honest : Honest our-calls our-lookups
+unfolding our-calls our-lookups run run-by history-by
 honest = record {
   begins = promise.clear-accepted;
-  after = λ t before calls cleared words. record {
-    finds-longest = promise.finds-longest t before calls cleared words;
-    says-none = promise.says-none t before calls cleared words;
-    probes-counted = promise.probes-counted t before calls cleared words;
-    numbers-given = promise.numbers-given t before calls cleared words;
-  };
+  after = λ t before calls cleared words.
+      let history = history-of before cleared (made t (act t Clear before .memory) calls words) in
+      record {
+        finds-longest = promise.finds-longest history;
+        says-none = promise.says-none history;
+        probes-counted = promise.probes-counted history;
+        numbers-given = promise.numbers-given history;
+      };
 }
 
 -- ---- How one is shown up
@@ -56,11 +61,11 @@ module _ (t : Settings) where
 
 -- what is promised is what is due
 due-answer : {acting : Acting} {asking : Asking} {t : Settings} {m : Memory} {routes : List Route} → Promised acting asking t m routes
-    → (address : ℕ) → address < 2 ^ 32 → same-answers (asking t address m) (answer-by t routes address (longest address routes)) ≡ true
+    → (address : ℕ) → address < 2 ^ 32 → same-answers (asking t m address) (answer-by t routes address (longest address routes)) ≡ true
 unfolding same-answers answer-by
 due-answer {acting} {asking} {t} {m} {routes} promised address word = go (longest address routes) (right address routes)
   where
-    go : (o : Option Route) → Right address routes o → same-answers (asking t address m) (answer-by t routes address o) ≡ true
+    go : (o : Option Route) → Right address routes o → same-answers (asking t m address) (answer-by t routes address o) ≡ true
     go none no-match =
         let its = promised .says-none address word no-match in
         let probes = probes-down-to t routes address 0 in
@@ -85,38 +90,6 @@ module _ (t : Settings) where
       let due = due-answer (honest .after t sevens calls (eqb-true _ 0 (start .0)) (start .1)) address (ltb-true address (2 ^ 32) (two .0)) in
       true≢false (sym (two .1) ∙ ap not due)
 
--- ---- Programs that differ from the rules in one call
-
-abbrev pub with-clear : (Settings → Memory → Outcome) → Acting
-with-clear other t Clear m = other t m
-with-clear other t (Add p L hop) m = add t m p L hop
-with-clear other t (Withdraw p L) m = withdraw t m p L
-with-clear other t (Change p L hop) m = change t m p L hop
-
-abbrev pub with-add : (Settings → Memory → (p L hop : ℕ) → Outcome) → Acting
-with-add other t Clear m = clear t m
-with-add other t (Add p L hop) m = other t m p L hop
-with-add other t (Withdraw p L) m = withdraw t m p L
-with-add other t (Change p L hop) m = change t m p L hop
-
-abbrev pub with-withdraw : (Settings → Memory → (p L : ℕ) → Outcome) → Acting
-with-withdraw other t Clear m = clear t m
-with-withdraw other t (Add p L hop) m = add t m p L hop
-with-withdraw other t (Withdraw p L) m = other t m p L
-with-withdraw other t (Change p L hop) m = change t m p L hop
-
-abbrev pub with-change : (Settings → Memory → (p L hop : ℕ) → Outcome) → Acting
-with-change other t Clear m = clear t m
-with-change other t (Add p L hop) m = add t m p L hop
-with-change other t (Withdraw p L) m = withdraw t m p L
-with-change other t (Change p L hop) m = other t m p L hop
-
--- a lookup with another number of probes
-abbrev pub with-probes : (Settings → (address : ℕ) → Memory → ℕ) → Asking
-with-probes probes t address m =
-    let a = ask t address m in
-    record { refusal = a .refusal; found = a .found; hop = a .hop; length = a .length; probes = probes t address m }
-
 -- the number that a call should give, with other memory, other counters or other slots
 abbrev pub says-ok : Outcome → Memory → Outcome
 says-ok u m = record { refusal = u .refusal; memory = m }
@@ -135,49 +108,49 @@ shown = 0
 -- ---- The shams of the rules
 
 -- Refuses every add: 10/8 is told that its bucket is full.
-pub refuses-every-add : Honest (with-add (λ t m p L hop. left 8 (m .counters) (m .slots))) ask → ⊥
+pub refuses-every-add : Honest (with-add (λ t m p L hop. left 8 (m .counters) (m .slots))) lookup → ⊥
 unfolding shown
-refuses-every-add = by-number T _ ask [] add-8 refl
+refuses-every-add = by-number T _ lookup [] add-8 refl
 
 -- Answers every lookup with none, after the probes that are due: 10/8 is stored and 10.2.2.3 is not found.
 pub answers-none :
-    Honest act (λ t address m. let a = ask t address m in record { refusal = a .refusal; found = false; hop = 0; length = 0; probes = a .probes }) → ⊥
+    Honest act (λ t m address. let a = lookup t m address in record { refusal = a .refusal; found = false; hop = 0; length = 0; probes = a .probes }) → ⊥
 unfolding shown
 answers-none = by-answer T act _ (add-8 ∷ []) (ip 10 2 2 3) refl
 
 -- Answers always with the default.
-pub answers-default : Honest act (λ t address m. default-answer (default-mark t (m .slots)) (ask t address m .probes)) → ⊥
+pub answers-default : Honest act (λ t m address. default-answer (default-mark t (m .slots)) (lookup t m address .probes)) → ⊥
 unfolding shown
 answers-default = by-answer T act _ (add-8 ∷ []) (ip 10 2 2 3) refl
 
 -- An add that writes nothing: what was added cannot be withdrawn.
-pub add-writes-nothing : Honest (with-add (λ t m p L hop. says-ok (add t m p L hop) m)) ask → ⊥
+pub add-writes-nothing : Honest (with-add (λ t m p L hop. says-ok (add t m p L hop) m)) lookup → ⊥
 unfolding shown
-add-writes-nothing = by-number T _ ask (add-8 ∷ []) (Withdraw (ip 10 0 0 0) 8) refl
+add-writes-nothing = by-number T _ lookup (add-8 ∷ []) (Withdraw (ip 10 0 0 0) 8) refl
 
 -- A withdrawal that writes nothing: a second one of the same prefix is accepted too.
-pub withdraw-writes-nothing : Honest (with-withdraw (λ t m p L. says-ok (withdraw t m p L) m)) ask → ⊥
+pub withdraw-writes-nothing : Honest (with-withdraw (λ t m p L. says-ok (withdraw t m p L) m)) lookup → ⊥
 unfolding shown
-withdraw-writes-nothing = by-number T _ ask (add-8 ∷ Withdraw (ip 10 0 0 0) 8 ∷ []) (Withdraw (ip 10 0 0 0) 8) refl
+withdraw-writes-nothing = by-number T _ lookup (add-8 ∷ Withdraw (ip 10 0 0 0) 8 ∷ []) (Withdraw (ip 10 0 0 0) 8) refl
 
 -- A change that writes nothing: the old hop is found.
-pub change-writes-nothing : Honest (with-change (λ t m p L hop. says-ok (change t m p L hop) m)) ask → ⊥
+pub change-writes-nothing : Honest (with-change (λ t m p L hop. says-ok (change t m p L hop) m)) lookup → ⊥
 unfolding shown
-change-writes-nothing = by-answer T _ ask (add-8 ∷ Change (ip 10 0 0 0) 8 1 ∷ []) (ip 10 2 2 3) refl
+change-writes-nothing = by-answer T _ lookup (add-8 ∷ Change (ip 10 0 0 0) 8 1 ∷ []) (ip 10 2 2 3) refl
 
 -- The first add works and later ones, where some counter is set already, only say ok.
 pub only-first-add-works :
-    Honest (with-add (λ t m p L hop. let u = add t m p L hop in says-ok u (cond (any (ltb 0) (m .counters)) m (u .memory)))) ask → ⊥
+    Honest (with-add (λ t m p L hop. let u = add t m p L hop in says-ok u (cond (any (ltb 0) (m .counters)) m (u .memory)))) lookup → ⊥
 unfolding shown
-only-first-add-works = by-number T _ ask (add-8 ∷ add-16 ∷ []) (Withdraw (ip 10 1 0 0) 16) refl
+only-first-add-works = by-number T _ lookup (add-8 ∷ add-16 ∷ []) (Withdraw (ip 10 1 0 0) 16) refl
 
 -- Reports 1 probe regardless.
-pub one-probe : Honest act (with-probes (λ t address m. 1)) → ⊥
+pub one-probe : Honest act (with-probes (λ t m address. 1)) → ⊥
 unfolding shown
 one-probe = by-answer T act _ [] 0 refl
 
 -- Reports 32 probes regardless.
-pub thirty-two-probes : Honest act (with-probes (λ t address m. 32)) → ⊥
+pub thirty-two-probes : Honest act (with-probes (λ t m address. 32)) → ⊥
 unfolding shown
 thirty-two-probes = by-answer T act _ [] 0 refl
 
@@ -187,40 +160,40 @@ thirty-two-probes = by-answer T act _ [] 0 refl
 pub withdraw-takes-shared-marks :
     Honest (with-withdraw (λ t m p L.
     let u = withdraw t m p L in
-    unless-refused (u .refusal) (lent (step-each (λ n. 0) (m .counters) (counter-places t p L)) (u .memory .slots)) m)) ask → ⊥
+    unless-refused (u .refusal) (lent (step-each (λ n. 0) (m .counters) (counter-places t p L)) (u .memory .slots)) m)) lookup → ⊥
 unfolding shown
-withdraw-takes-shared-marks = by-answer T _ ask (pair ++ Withdraw (ip 8 0 0 0) 8 ∷ []) (ip 10 2 2 3) refl
+withdraw-takes-shared-marks = by-answer T _ lookup (pair ++ Withdraw (ip 8 0 0 0) 8 ∷ []) (ip 10 2 2 3) refl
 
 -- A withdrawal that empties its whole bucket: 10/8 is no longer stored.
 pub withdraw-takes-two :
     Honest (with-withdraw (λ t m p L.
-    with-slots (withdraw t m p L) (with-slot (with-slot (m .slots) (slot-number t p L 0) 0 0) (slot-number t p L 1) 0 0))) ask → ⊥
+    with-slots (withdraw t m p L) (with-slot (with-slot (m .slots) (slot-number t p L 0) 0 0) (slot-number t p L 1) 0 0))) lookup → ⊥
 unfolding shown
-withdraw-takes-two = by-number T _ ask (pair ++ Withdraw (ip 8 0 0 0) 8 ∷ []) (Withdraw (ip 10 0 0 0) 8) refl
+withdraw-takes-two = by-number T _ lookup (pair ++ Withdraw (ip 8 0 0 0) 8 ∷ []) (Withdraw (ip 10 0 0 0) 8) refl
 
 -- An add that always writes slot 0 of its bucket: 10/8 is no longer stored once 8/8 is.
 pub add-evicts :
-    Honest (with-add (λ t m p L hop. with-slots (add t m p L hop) (with-slot (m .slots) (slot-number t p L 0) p (mark-of hop)))) ask → ⊥
+    Honest (with-add (λ t m p L hop. with-slots (add t m p L hop) (with-slot (m .slots) (slot-number t p L 0) p (mark-of hop)))) lookup → ⊥
 unfolding shown
-add-evicts = by-number T _ ask pair (Withdraw (ip 10 0 0 0) 8) refl
+add-evicts = by-number T _ lookup pair (Withdraw (ip 10 0 0 0) 8) refl
 
 -- An add that has raised its first counter when it asks for 8 and 9: 0/8 is refused in the full bucket, and when the two
 -- others are withdrawn position 0 is still counted, so that 0.0.0.1 takes a probe for nothing.
 pub first-counter-raised :
     Honest (with-add (λ t m p L hop.
     let u = add t m p L hop in
-    cond (ltb 7 (u .refusal)) (with-counters u (step-each (λ n. n + 1) (m .counters) (take 1 (counter-places t p L)))) u)) ask → ⊥
+    cond (ltb 7 (u .refusal)) (with-counters u (step-each (λ n. n + 1) (m .counters) (take 1 (counter-places t p L)))) u)) lookup → ⊥
 unfolding shown
-first-counter-raised = by-answer T _ ask (pair ++ Add 0 8 1 ∷ Withdraw (ip 10 0 0 0) 8 ∷ Withdraw (ip 8 0 0 0) 8 ∷ []) 1 refl
+first-counter-raised = by-answer T _ lookup (pair ++ Add 0 8 1 ∷ Withdraw (ip 10 0 0 0) 8 ∷ Withdraw (ip 8 0 0 0) 8 ∷ []) 1 refl
 
 -- An add that raises a doubled position once: the withdrawal, which counts it twice, gets 10.
 pub doubled-raised-once :
     Honest (with-add (λ t m p L hop.
     let u = add t m p L hop in
     let once = those (λ i. ltb 0 (hits t p L i)) (down-from (length (m .counters))) in
-    cond (eqb (u .refusal) 0) (with-counters u (step-each (λ n. n + 1) (m .counters) once)) u)) ask → ⊥
+    cond (eqb (u .refusal) 0) (with-counters u (step-each (λ n. n + 1) (m .counters) once)) u)) lookup → ⊥
 unfolding shown
-doubled-raised-once = by-number T _ ask (Add 0 8 1 ∷ []) (Withdraw 0 8) refl
+doubled-raised-once = by-number T _ lookup (Add 0 8 1 ∷ []) (Withdraw 0 8) refl
 
 -- An add that never gives 9 and lets a counter stick at 15: three of four routes are withdrawn, five at a time, and
 -- the fourth, which is stored, is not found.
@@ -228,67 +201,67 @@ pub counter-sticks :
     Honest (with-add (λ t m p L hop.
     let u = add t m p L hop in
     let stuck = step-each (λ n. cond (ltb n 15) (n + 1) 15) (m .counters) (counter-places t p L) in
-    cond (eqb (u .refusal) 9) (left 0 stuck (added t m p L hop .slots)) u)) ask → ⊥
+    cond (eqb (u .refusal) 9) (left 0 stuck (added t m p L hop .slots)) u)) lookup → ⊥
 unfolding shown
-counter-sticks = by-answer Z _ ask four-then-one 4 refl
+counter-sticks = by-answer Z _ lookup four-then-one 4 refl
 
 -- ---- Adds of a stored prefix that do not replace
 
 -- Refuses it, with 6.
 pub stored-refused :
-    Honest (with-add (λ t m p L hop. cond (stored t (m .slots) p L) (left 6 (m .counters) (m .slots)) (add t m p L hop))) ask → ⊥
+    Honest (with-add (λ t m p L hop. cond (stored t (m .slots) p L) (left 6 (m .counters) (m .slots)) (add t m p L hop))) lookup → ⊥
 unfolding shown
-stored-refused = by-number T _ ask (add-8 ∷ []) add-8 refl
+stored-refused = by-number T _ lookup (add-8 ∷ []) add-8 refl
 
 -- Asks for a free slot first: 8/8 is refused in its full bucket.
 pub full-before-stored :
-    Honest (with-add (λ t m p L hop. cond (from-1 L (full t (m .slots) p L)) (left 8 (m .counters) (m .slots)) (add t m p L hop))) ask → ⊥
+    Honest (with-add (λ t m p L hop. cond (from-1 L (full t (m .slots) p L)) (left 8 (m .counters) (m .slots)) (add t m p L hop))) lookup → ⊥
 unfolding shown
-full-before-stored = by-number T _ ask pair (Add (ip 8 0 0 0) 8 6) refl
+full-before-stored = by-number T _ lookup pair (Add (ip 8 0 0 0) 8 6) refl
 
 -- Says ok and leaves the old hop: 10.2.2.3 gets it.
 pub old-hop-stays :
-    Honest (with-add (λ t m p L hop. let u = add t m p L hop in says-ok u (cond (stored t (m .slots) p L) m (u .memory)))) ask → ⊥
+    Honest (with-add (λ t m p L hop. let u = add t m p L hop in says-ok u (cond (stored t (m .slots) p L) m (u .memory)))) lookup → ⊥
 unfolding shown
-old-hop-stays = by-answer T _ ask again (ip 10 2 2 3) refl
+old-hop-stays = by-answer T _ lookup again (ip 10 2 2 3) refl
 
 -- Raises the counters again: with 10/8 withdrawn they still claim it, and 10.2.2.3 takes a probe for nothing.
 pub raised-again :
     Honest (with-add (λ t m p L hop.
     let u = add t m p L hop in
-    with-counters u (cond (stored t (m .slots) p L) (step-each (λ n. n + 1) (m .counters) (counter-places t p L)) (u .memory .counters)))) ask → ⊥
+    with-counters u (cond (stored t (m .slots) p L) (step-each (λ n. n + 1) (m .counters) (counter-places t p L)) (u .memory .counters)))) lookup → ⊥
 unfolding shown
-raised-again = by-answer T _ ask (again ++ Withdraw (ip 10 0 0 0) 8 ∷ []) (ip 10 2 2 3) refl
+raised-again = by-answer T _ lookup (again ++ Withdraw (ip 10 0 0 0) 8 ∷ []) (ip 10 2 2 3) refl
 
 -- Takes the first free slot: 10/8 stands twice, and after one withdrawal a second gets 10 where 7 is due.
 pub first-free-taken :
     Honest (with-add (λ t m p L hop.
     let u = add t m p L hop in
-    with-slots u (cond (stored t (m .slots) p L) (with-found t (m .slots) p L (vacant t (m .slots) p L) p (mark-of hop)) (u .memory .slots)))) ask → ⊥
+    with-slots u (cond (stored t (m .slots) p L) (with-found t (m .slots) p L (vacant t (m .slots) p L) p (mark-of hop)) (u .memory .slots)))) lookup → ⊥
 unfolding shown
-first-free-taken = by-number T _ ask (again ++ Withdraw (ip 10 0 0 0) 8 ∷ []) (Withdraw (ip 10 0 0 0) 8) refl
+first-free-taken = by-number T _ lookup (again ++ Withdraw (ip 10 0 0 0) 8 ∷ []) (Withdraw (ip 10 0 0 0) 8) refl
 
 -- ---- Changes, clears and lookups
 
 -- A change that gives the default the new hop too.
 pub change-moves-default :
-    Honest (with-change (λ t m p L hop. let u = change t m p L hop in with-slots u (set (u .memory .slots) (default-word t) (mark-of hop)))) ask → ⊥
+    Honest (with-change (λ t m p L hop. let u = change t m p L hop in with-slots u (set (u .memory .slots) (default-word t) (mark-of hop)))) lookup → ⊥
 unfolding shown
-change-moves-default = by-answer T _ ask (add-8 ∷ Add 0 0 3 ∷ Change (ip 10 0 0 0) 8 1 ∷ []) (ip 12 0 0 1) refl
+change-moves-default = by-answer T _ lookup (add-8 ∷ Add 0 0 3 ∷ Change (ip 10 0 0 0) 8 1 ∷ []) (ip 12 0 0 1) refl
 
 -- A clear that leaves the default's mark as it was: a default is still found.
 pub clear-leaves-default :
-    Honest (with-clear (λ t m. let u = clear t m in with-slots u (set (u .memory .slots) (default-word t) (default-mark t (m .slots))))) ask → ⊥
+    Honest (with-clear (λ t m. let u = clear t m in with-slots u (set (u .memory .slots) (default-word t) (default-mark t (m .slots))))) lookup → ⊥
 unfolding shown
-clear-leaves-default = by-answer T _ ask [] 0 refl
+clear-leaves-default = by-answer T _ lookup [] 0 refl
 
 -- A clear that is always refused, so that no history begins.
-pub refuses-every-clear : Honest (with-clear (λ t m. left 2 (m .counters) (m .slots))) ask → ⊥
+pub refuses-every-clear : Honest (with-clear (λ t m. left 2 (m .counters) (m .slots))) lookup → ⊥
 unfolding shown
 refuses-every-clear honest = suc-ne-zero 1 (honest .begins T sevens refl refl)
 
 -- A lookup that answers for another address.
-pub answers-another : Honest act (λ t address m. ask t (ip 10 1 2 3) m) → ⊥
+pub answers-another : Honest act (λ t m address. lookup t m (ip 10 1 2 3)) → ⊥
 unfolding shown
 answers-another = by-answer T act _ (add-8 ∷ []) (ip 12 0 0 1) refl
 
@@ -298,19 +271,19 @@ first [] = []
 first (L ∷ Ls) = L ∷ []
 
 pub stops-at-highest :
-    Honest act (λ t address m. place-answer t (m .slots) 1 (searched t (m .slots) address 0 (first (set-bits (vector-of t (m .counters) address))))) → ⊥
+    Honest act (λ t m address. place-answer t (m .slots) 1 (searched t (m .slots) address 0 (first (set-bits (vector-of t (m .counters) address))))) → ⊥
 unfolding shown
 stops-at-highest = by-answer T act _ (add-8 ∷ add-16 ∷ []) (ip 10 2 2 3) refl
 
 -- A lookup that does not count the probe that finds the route.
-pub probes-above-only : Honest act (with-probes (λ t address m. ask t address m .probes - one-if (ask t address m .found))) → ⊥
+pub probes-above-only : Honest act (with-probes (λ t m address. lookup t m address .probes - one-if (lookup t m address .found))) → ⊥
 unfolding shown
 probes-above-only = by-answer T act _ (add-8 ∷ []) (ip 10 2 2 3) refl
 
 -- A none that carries a length.
 pub none-with-length :
-    Honest act (λ t address m.
-    let a = ask t address m in
+    Honest act (λ t m address.
+    let a = lookup t m address in
     record { refusal = a .refusal; found = a .found; hop = a .hop; length = cond (a .found) (a .length) 32; probes = a .probes }) → ⊥
 unfolding shown
 none-with-length = by-answer T act _ [] 0 refl

@@ -1,5 +1,5 @@
 -- The words of the demands, as definitions over the stored routes.
-use Prim.Native.Nat.{ℕ, zero, suc, _+_, _-_, _*_, _%_, _^_, _≤_}
+use Prim.Native.Nat.{ℕ, zero, suc, _+_, _-_, _*_, _%_, _^_, _≤_, _<_}
 use mathlib.Core.Path.{_≡_}
 use mathlib.Core.Bool.{Bool, true, false, cond, not, _&&_, _||_}
 use mathlib.Core.List.{List, [], _∷_, _++_, map, List·Memᴰ}
@@ -10,7 +10,8 @@ use Rattle.rules.specs.Tools.{all, any, count, those}
 use Rattle.rules.specs.declared.Settings.{Settings}
 use Rattle.rules.specs.declared.Answer.{Answer}
 use Rattle.rules.specs.Table.{prefix, positions, bucket, filter-bits, Memory, counters-size, counter-place, counter-places, slots-size, slot-number, occupied, mark-at, prefix-at, default-mark, refuse, loose, from-1, hits, down-from}
-use Rattle.promises.specs.History.{Route, Call, Clear, Add, Withdraw, Change, State, about, act, next}
+use Rattle.rules.specs.Calls.{Call, Clear, Add, Withdraw, Change, Run, each}
+use Rattle.promises.specs.History.{Route, about, noted}
 
 -- ---- Numbers given back, by the lent memory
 
@@ -132,7 +133,7 @@ pub data Reordered : List Route → List Route → Type 0 where
   Nothing : Reordered [] []
   First : (r : Route) {one other : List Route} → Reordered one other → Reordered (r ∷ one) (r ∷ other)
   Swapped : (r q : Route) (routes : List Route) → Reordered (r ∷ q ∷ routes) (q ∷ r ∷ routes)
-  Then : {one other third : List Route} → Reordered one other → Reordered other third → Reordered one third
+  Again : {one other third : List Route} → Reordered one other → Reordered other third → Reordered one third
 
 -- ---- The longest match
 
@@ -182,6 +183,10 @@ pub record SameButHop (answer other : Answer) : Type 0 where
   pub found : answer .found ≡ other .found
   pub length : answer .length ≡ other .length
   pub probes : answer .probes ≡ other .probes
+
+-- each address is a number of 32 bits, as every caller's is
+abbrev pub Words : (addresses : List ℕ) → Type 0
+Words addresses = (i : ℕ) → i < length addresses → getD addresses i 0 < 2 ^ 32
 
 -- place i of a list's results, as an answer that carries no refusal: found where its first word is 1, then hop, length and probes
 unfoldable pub answer-at : (results : List ℕ) (i : ℕ) → Answer
@@ -241,6 +246,10 @@ number-given t routes (Add p L hop) = add-number t routes p L hop
 number-given t routes (Withdraw p L) = withdraw-number routes p L
 number-given t routes (Change p L hop) = change-number routes p L hop
 
+-- calls one after the other on paper alone, with no memory in sight: what each is given, and the routes that they leave
+unfoldable pub paper : Settings → List Route → List Call → Run (List Route)
+paper t = each (number-given t) (λ routes call. noted call (number-given t routes call) routes)
+
 -- ---- Probes
 
 -- j is a position of this route, and the route has length L
@@ -268,11 +277,6 @@ lengths-in-use routes = length (those (in-use routes) (down-from 32))
 -- each route added once, in the list's order
 unfoldable pub adds : List Route → List Call
 adds routes = map (λ r. Add (r .prefix) (r .length) (r .hop)) routes
-
--- what each call gives back
-unfoldable pub refusals : Settings → State → List Call → List ℕ
-refusals t s [] = []
-refusals t s (call ∷ calls) = act t call (s .memory) .refusal ∷ refusals t (next t s call) calls
 
 -- ---- Counters
 

@@ -1,53 +1,21 @@
--- A history is a list of calls as anyone may make them, with any arguments that a caller can give. What
--- it stores is read off the calls and their answers alone.
-use Prim.Native.Nat.{ℕ, _^_}
+-- What a history is: an accepted clear, and then any calls, with any arguments that a caller can give. What it stores is
+-- read off the calls and their answers alone.
+use Prim.Native.Nat.{ℕ}
+use mathlib.Core.Path.{_≡_}
 use mathlib.Core.Bool.{Bool, true, cond, _&&_}
-use mathlib.Core.List.{List, [], _∷_, map}
-use lib.Dec.{ltb, eqb}
+use mathlib.Core.List.{List, [], _∷_, _++_, map}
+use lib.Dec.{eqb}
 use Rattle.rules.specs.declared.Settings.{Settings}
-use Rattle.rules.specs.declared.Answer.{Answer}
-use Rattle.rules.specs.declared.Vector.{Vector}
-use Rattle.rules.specs.Table.{Memory, Outcome, clear, add, withdraw, change, lookup, match-vector}
+use Rattle.rules.specs.Table.{Memory}
+use Rattle.rules.specs.Calls.{Call, Clear, Add, Withdraw, Change, all-word-sized, act, run}
+
+-- ---- The routes on paper
 
 -- a route as it stands on paper; that of length 0 is the default
 pub record Route : Type 0 where
   pub prefix : ℕ
   pub length : ℕ
   pub hop : ℕ
-
--- a call that writes, with its arguments
-pub data Call : Type 0 where
-  Clear : Call
-  Add : (prefix length hop : ℕ) → Call
-  Withdraw : (prefix length : ℕ) → Call
-  Change : (prefix length hop : ℕ) → Call
-
--- its prefix is a number of 32 bits, as every caller's is
-unfoldable pub word-sized : Call → Bool
-word-sized Clear = true
-word-sized (Add p L hop) = ltb p (2 ^ 32)
-word-sized (Withdraw p L) = ltb p (2 ^ 32)
-word-sized (Change p L hop) = ltb p (2 ^ 32)
-
--- and so in each of these calls
-unfoldable pub all-word-sized : List Call → Bool
-all-word-sized [] = true
-all-word-sized (call ∷ calls) = word-sized call && all-word-sized calls
-
--- what a call gives back and leaves
-unfoldable pub act : Settings → Call → Memory → Outcome
-act t Clear m = clear t m
-act t (Add p L hop) m = add t m p L hop
-act t (Withdraw p L) m = withdraw t m p L
-act t (Change p L hop) m = change t m p L hop
-
--- what a lookup of an address gives back
-unfoldable pub ask : Settings → (address : ℕ) → Memory → Answer
-ask t address m = lookup t m address
-
--- what its match vector gives back
-unfoldable pub ask-vector : Settings → (address : ℕ) → Memory → Vector
-ask-vector t address m = match-vector t m address
 
 -- the route is about this prefix of this length
 unfoldable pub about : (p L : ℕ) → Route → Bool
@@ -74,38 +42,39 @@ written (Change p L hop) routes = with-hop p L hop routes
 unfoldable pub noted : Call → (refusal : ℕ) → List Route → List Route
 noted call refusal routes = cond (eqb refusal 0) (written call routes) routes
 
--- the memory, and the routes on paper, after some calls
-pub record State : Type 0 where
-  pub memory : Memory
-  pub routes : List Route
+-- the routes on paper after some calls, by the calls and the numbers that they were given
+unfoldable pub on-paper : List Route → (calls : List Call) (answers : List ℕ) → List Route
+on-paper routes [] answers = routes
+on-paper routes (call ∷ calls) [] = routes
+on-paper routes (call ∷ calls) (answer ∷ answers) = on-paper (noted call answer routes) calls answers
 
--- what the calls of a program that write give back and leave
-abbrev pub Acting : Type 0
-Acting = Settings → Call → Memory → Outcome
+-- the routes that a history stores: a clear begins it, with nothing on paper
+unfoldable pub stored : (calls : List Call) (answers : List ℕ) → List Route
+stored calls answers = on-paper [] calls answers
 
--- after one call more to that program
-unfoldable pub next-by : Acting → Settings → State → Call → State
-next-by acting t s call =
-    let u = acting t call (s .memory) in
-    record { memory = u .memory; routes = noted call (u .refusal) (s .routes) }
+-- ---- Histories
 
--- after a list of calls, the first one first
-unfoldable pub after-by : Acting → Settings → State → List Call → State
-after-by acting t s [] = s
-after-by acting t s (call ∷ calls) = after-by acting t (next-by acting t s call) calls
+-- these single calls were made on memory m, one after the other, were given these answers, and left m'; their prefixes are
+-- numbers of 32 bits
+pub record SingleCalls (t : Settings) (m : Memory) (calls : List Call) (answers : List ℕ) (m' : Memory) : Type 0 where
+  pub words : all-word-sized calls ≡ true
+  pub ran : run t m calls ≡ record { answers = answers; last = m' }
 
--- after a clear, which stores nothing, and then the calls, over memory that held anything before
-unfoldable pub history-by : Acting → Settings → (before : Memory) → List Call → State
-history-by acting t before calls = after-by acting t (record { memory = acting t Clear before .memory; routes = [] }) calls
+-- A history, which is all that a promise asks for. The table was cleared, on memory that held anything, and the clear was
+-- accepted. Then these calls were made, refused ones among them, all with the same settings. Each was given its answer, and
+-- m is the memory that they leave.
+pub record History (t : Settings) (calls : List Call) (answers : List ℕ) (m : Memory) : Type 0 where
+  pub before : Memory
+  pub cleared : act t Clear before .refusal ≡ 0
+  pub words : all-word-sized calls ≡ true
+  pub ran : run t (act t Clear before .memory) calls ≡ record { answers = answers; last = m }
 
--- the same of the calls of the rules
-abbrev pub next : Settings → State → Call → State
-next = next-by act
+-- ---- Seats
 
--- so after a list of our calls
-abbrev pub after : Settings → State → List Call → State
-after = after-by act
-
--- and so a history of them
-abbrev pub history : Settings → (before : Memory) → List Call → State
-history = history-by act
+-- What a seat did, one thing after the other: a seat is anyone from whom calls come, a caller of crates/table, a C program,
+-- a reader of messages or of lines. One thing done stands for some single calls (an update for one, a list of addresses for
+-- none, a message for several), which were given their answers, and goes on from the memory that the one before it left.
+pub data Ran (Did : Memory → List Call → List ℕ → Memory → Type 0) : Memory → List Call → List ℕ → Memory → Type 0 where
+  Stop : {m : Memory} → Ran Did m [] [] m
+  Then : {m m' last : Memory} {calls more : List Call} {answers more-answers : List ℕ}
+      → Did m calls answers m' → Ran Did m' more more-answers last → Ran Did m (calls ++ more) (answers ++ more-answers) last
