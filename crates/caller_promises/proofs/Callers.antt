@@ -14,14 +14,14 @@ use Rattle.caller_promises.proofs.Contracts.{Called, called-acted, call
 -- what a caller can do under settings t: an update, which is a single call, or a list of addresses, which is none and
 -- changes nothing
 pub data Did (t : Settings) : Memory → List Call → List ℕ → Memory → Type 0 where
-  Updated : {call : Call} {m m' : Memory} {r : ℕ} → Called t call m r m' → Did t m (call ∷ []) (r ∷ []) m'
-  Listed : {m : Memory} {addresses results results' : List ℕ} {r : ℕ} → ListCalled t m addresses results r results' → Did t m [] [] m
+  Single : {call : Call} {m m' : Memory} {r : ℕ} → Called t call m r m' → Did t m (call ∷ []) (r ∷ []) m'
+  Addresses : {m : Memory} {addresses results results' : List ℕ} {r : ℕ} → ListCalled t m addresses results r results' → Did t m [] [] m
 
 -- Each is single calls,
 pub did-single : {t : Settings} (m : Memory) (calls : List Call) (answers : List ℕ) (m' : Memory) → Did t m calls answers m' → SingleCalls t m calls answers m'
 unfolding all-word-sized run each
-did-single m calls answers m' (Updated called) = one-made (called-word called) (called-acted called)
-did-single {t} m calls answers m' (Listed called) = made t m [] refl
+did-single m calls answers m' (Single called) = one-made (called-word called) (called-acted called)
+did-single {t} m calls answers m' (Addresses called) = made t m [] refl
 
 -- and so are several, one after the other.
 pub served-made : {t : Settings} {m m' : Memory} {calls : List Call} {answers : List ℕ} → Ran (Did t) m calls answers m' → SingleCalls t m calls answers m'

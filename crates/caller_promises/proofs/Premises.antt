@@ -28,7 +28,7 @@ use Rattle.promises.proofs.Paper.{route}
 use Rattle.promises.proofs.Matches.{right}
 use Rattle.promises.proofs.Promises.{finds-longest, says-none}
 use Rattle.caller_promises.proofs.Contracts.{Called, ClearCalled, AddCalled, Looked, LookupCalled, looked-given, looked-word, ListCalled, LookupListCalled, place-looked}
-use Rattle.caller_promises.proofs.Callers.{Updated, Listed, served-history}
+use Rattle.caller_promises.proofs.Callers.{Single, Addresses, served-history}
 
 -- settings T as a struct of six numbers of 32 bits and an array of 32 bytes
 abbrev word : ℕ → List Val
@@ -112,7 +112,7 @@ list-short = LookupListCalled ([], ([], ([], ([], tt))))
 
 -- a table was cleared, and served a list that it refused, an add, and a list that it accepted
 one-served : History T (Add (ip 10 0 0 0) 8 7 ∷ []) (0 ∷ []) one
-one-served = served-history clear-called (Then (Listed list-short) (Then (Updated add-called) (Then (Listed list-called) Stop)))
+one-served = served-history clear-called (Then (Addresses list-short) (Then (Single add-called) (Then (Addresses list-called) Stop)))
 
 -- 10.2.2.3 finds the route,
 looked-met : Finds (lookup T one (ip 10 2 2 3)) (route (ip 10 0 0 0) 8 7)

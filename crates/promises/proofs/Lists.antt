@@ -12,7 +12,7 @@ use lib.ListN.{length, take, drop, getD}
 use lib.Seq.{getD-take, getD-drop}
 use borrow.Author.Tests.{eqb-true, eqb-false, ne-eqb}
 use Rattle.rules.specs.declared.Settings.{Settings}
-use Rattle.rules.specs.Table.{Memory, memory-refusal, match-vector, lookup, one-if, answer-words, list-words, listed, list-refusal, lookup-list}
+use Rattle.rules.specs.Table.{Memory, memory-refusal, lookup, one-if, answer-words, list-words, listed, list-refusal, lookup-list}
 use Rattle.rules.specs.Calls.{Call}
 use Rattle.rules.proofs.Refusals.{memory-passing, Fitted, memory-passed, fits}
 use Rattle.rules.proofs.Lists.{list-size, list-place, list-same, list-passed, list-fits}
@@ -21,7 +21,7 @@ use Rattle.promises.specs.Demands.{memory-conditions, list-conditions, N
 use Rattle.promises.proofs.Sums.{by-cases}
 use Rattle.promises.proofs.Conditions.{given-exactly, none-exactly, list-first, list-numbered}
 use Rattle.promises.proofs.Refused.{lookup-checks}
-use Rattle.promises.proofs.Promises.{vector-accepted}
+use Rattle.promises.proofs.Promises.{checks-passed}
 
 -- found is 1 or 0, and read back from it
 found-back : (found : Bool) → eqb (one-if found) 1 ≡ found
@@ -33,18 +33,18 @@ found-back false = refl
 
 module _ (t : Settings) (m : Memory) (addresses results : List ℕ) where
   -- the number that it is given back, and its results after
-  abbrev number : ℕ
-  number = lookup-list t m addresses results .refusal
+  abbrev given : ℕ
+  given = lookup-list t m addresses results .refusal
 
   abbrev results' : List ℕ
   results' = lookup-list t m addresses results .results
 
   -- A number is given exactly if its condition is met and none is of those before it in the list.
-  pub list-number : (n : ℕ) → 1 ≤ n → (number ≡ n) ↔ FirstMet n (list-conditions t m addresses results)
+  pub list-number : (n : ℕ) → 1 ≤ n → (given ≡ n) ↔ FirstMet n (list-conditions t m addresses results)
   unfolding lookup-list listed
   list-number = given-exactly (list-conditions t m addresses results) (list-first t m addresses results)
 
-  pub list-accepted-exactly : (number ≡ 0) ↔ NoneMet (list-conditions t m addresses results)
+  pub list-accepted-exactly : (given ≡ 0) ↔ NoneMet (list-conditions t m addresses results)
   unfolding lookup-list listed
   list-accepted-exactly = none-exactly (list-conditions t m addresses results) (list-first t m addresses results) (list-numbered t m addresses results)
 
@@ -54,38 +54,38 @@ module _ (t : Settings) (m : Memory) (addresses results : List ℕ) where
   list-numbers-listed = refl
 
   -- Where it is refused, every result is left as it was.
-  pub list-refused : number ≢ 0 → results' ≡ results
+  pub list-refused : given ≢ 0 → results' ≡ results
   unfolding lookup-list listed
   list-refused bad = rw (ne-eqb _ 0 bad)
 
   -- what an accepted list tells
-  accepted-fits : number ≡ 0 → Fitted t (m .counters) (m .slots) × (length results ≡ 4 * length addresses)
+  accepted-fits : given ≡ 0 → Fitted t (m .counters) (m .slots) × (length results ≡ 4 * length addresses)
   unfolding lookup-list listed
   accepted-fits good =
       let passed = list-passed _ _ t (m .counters) (m .slots) 0 good in
       (passed .0, passed .1)
 
-  accepted-words : number ≡ 0 → results' ≡ list-words t m addresses
+  accepted-words : given ≡ 0 → results' ≡ list-words t m addresses
   unfolding lookup-list listed
   accepted-words good = rw good
 
   -- There are as many results after as before,
   pub results-size : length results' ≡ length results
-  results-size = by-cases (eqb number 0)
-      (λ good. let e = eqb-true number 0 good in rw (accepted-words e, list-size t m addresses) (sym (accepted-fits e .1)))
-      (λ bad. ap length (list-refused (eqb-false number 0 bad)))
+  results-size = by-cases (eqb given 0)
+      (λ good. let e = eqb-true given 0 good in rw (accepted-words e, list-size t m addresses) (sym (accepted-fits e .1)))
+      (λ bad. ap length (list-refused (eqb-false given 0 bad)))
 
   -- which is four to an address where the list is accepted,
-  pub accepted-size : number ≡ 0 → length results' ≡ 4 * length addresses
+  pub accepted-size : given ≡ 0 → length results' ≡ 4 * length addresses
   accepted-size good = results-size ∙ accepted-fits good .1
 
   -- and place i has the four words of address i's lookup: found as 1 or 0, hop, length, probes.
-  pub place-words : number ≡ 0 → (i : ℕ) → i < length addresses
+  pub place-words : given ≡ 0 → (i : ℕ) → i < length addresses
       → take 4 (drop (4 * i) results') ≡ answer-words (lookup t m (getD addresses i 0))
   place-words good i inside = rw (accepted-words good) (list-place t m addresses i inside)
 
   -- Read as an answer, it is that lookup's.
-  pub place-answers : number ≡ 0 → (i : ℕ) → i < length addresses → answer-at results' i ≡ lookup t m (getD addresses i 0)
+  pub place-answers : given ≡ 0 → (i : ℕ) → i < length addresses → answer-at results' i ≡ lookup t m (getD addresses i 0)
   unfolding answer-at answer-words
   place-answers good i inside = λ k. record {
     refusal = sym (lookup-checks t m address ∙ fits t (m .counters) (m .slots) (accepted-fits good .0) 0) k;
@@ -130,8 +130,8 @@ module _ (t : Settings) (m other : Memory) (alike : (address : ℕ) → address 
 module _ {t : Settings} {calls : List Call} {answers : List ℕ} {m : Memory} (history : History t calls answers m) (addresses results : List ℕ) where
   -- A list is accepted exactly if there are four results to an address.
   pub list-accepted : (lookup-list t m addresses results .refusal ≡ 0) ↔ (length results ≡ 4 * length addresses)
-  unfolding lookup-list listed match-vector
+  unfolding lookup-list listed
   list-accepted = (
     λ good. accepted-fits t m addresses results good .1,
-    λ size. list-fits _ _ t (m .counters) (m .slots) (memory-passed t (m .counters) (m .slots) 0 (vector-accepted history 0) .0) size 0,
+    λ size. list-fits _ _ t (m .counters) (m .slots) (memory-passed t (m .counters) (m .slots) 0 (checks-passed history 0) .0) size 0,
   )

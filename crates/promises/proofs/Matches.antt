@@ -40,8 +40,8 @@ Right address routes none = NoMatch address routes
 
 module _ (address : ℕ) (r : Route) (routes : List Route) where
   -- a fact of the first and one of each other is one of all
-  each : {A : Route → Type 0} → A r → ((q : Route) → List·Memᴰ q routes → A q) → (q : Route) → List·Memᴰ q (r ∷ routes) → A q
-  each {A} here there q m = go (List·Memᴰ·cases-cons m)
+  of-all : {A : Route → Type 0} → A r → ((q : Route) → List·Memᴰ q routes → A q) → (q : Route) → List·Memᴰ q (r ∷ routes) → A q
+  of-all {A} here there q m = go (List·Memᴰ·cases-cons m)
     where
       go : (q ≡ r) ⊎ List·Memᴰ q routes → A q
       go (inl e) = rw e here
@@ -49,16 +49,16 @@ module _ (address : ℕ) (r : Route) (routes : List Route) where
 
   one-more : (b : Bool) → matches address r ≡ b → (o : Option Route) → Right address routes o → Right address (r ∷ routes) (cond b (longer r o) o)
   unfolding longer
-  one-more false e none others = each {A = λ q. matches address q ≡ false} e others
+  one-more false e none others = of-all {A = λ q. matches address q ≡ false} e others
   one-more false e (some q) best = record {
     stored = List·Memᴰ·tail (best .stored);
     matching = best .matching;
-    longest = each {A = λ x. matches address x ≡ true → x .length ≤ q .length} (λ h. absurd (true≢false (sym h ∙ e))) (best .longest);
+    longest = of-all {A = λ x. matches address x ≡ true → x .length ≤ q .length} (λ h. absurd (true≢false (sym h ∙ e))) (best .longest);
   }
   one-more true e none others = record {
     stored = List·Memᴰ·head refl;
     matching = e;
-    longest = each {A = λ x. matches address x ≡ true → x .length ≤ r .length} (λ h. le-refl (r .length)) (λ x m h. absurd (true≢false (sym h ∙ others x m)));
+    longest = of-all {A = λ x. matches address x ≡ true → x .length ≤ r .length} (λ h. le-refl (r .length)) (λ x m h. absurd (true≢false (sym h ∙ others x m)));
   }
   one-more true e (some q) best = go (ltb (q .length) (r .length)) refl
     where
@@ -66,13 +66,13 @@ module _ (address : ℕ) (r : Route) (routes : List Route) where
       go true shorter = record {
         stored = List·Memᴰ·head refl;
         matching = e;
-        longest = each {A = λ x. matches address x ≡ true → x .length ≤ r .length} (λ h. le-refl (r .length))
+        longest = of-all {A = λ x. matches address x ≡ true → x .length ≤ r .length} (λ h. le-refl (r .length))
             (λ x m h. omega (arith, best .longest x m h, ltb-true (q .length) (r .length) shorter));
       }
       go false longer = record {
         stored = List·Memᴰ·tail (best .stored);
         matching = best .matching;
-        longest = each {A = λ x. matches address x ≡ true → x .length ≤ q .length} (λ h. ltb-false (q .length) (r .length) longer) (best .longest);
+        longest = of-all {A = λ x. matches address x ≡ true → x .length ≤ q .length} (λ h. ltb-false (q .length) (r .length) longer) (best .longest);
       }
 
 pub right : (address : ℕ) (routes : List Route) → Right address routes (longest address routes)

@@ -12,7 +12,7 @@ use native.Mathlib.Nat.{zero-add}
 use lib.Dec.{eqb}
 use Rattle.rules.specs.declared.Settings.{Settings}
 use Rattle.rules.specs.Tools.{all}
-use Rattle.rules.specs.Table.{in-range, bucket, Memory, sized, refuse, unless-refused, clear, lookup, match-vector, bits-where}
+use Rattle.rules.specs.Table.{in-range, bucket, Memory, sized, refuse, memory-refusal, unless-refused, clear, lookup, match-vector, bits-where}
 use Rattle.rules.specs.Calls.{Call, Clear, Add, Withdraw, word-sized, act}
 use Rattle.rules.proofs.Refusals.{memory-order}
 use Rattle.promises.specs.History.{Route, about, stored, SingleCalls, History}
@@ -118,10 +118,14 @@ module _ {t : Settings} {calls : List Call} {answers : List ℕ} {m : Memory} (h
   pub stored-once : (p L : ℕ) → number (about p L) routes ≤ 1
   stored-once = kept history .once
 
+  -- Settings and sizes are not at fault: no call is given 1 or 2.
+  pub checks-passed : (after : ℕ) → memory-refusal t m after ≡ after
+  checks-passed = no-memory-refusal (kept history)
+
   -- A match vector is accepted.
   pub vector-accepted : (address : ℕ) → match-vector t m address .refusal ≡ 0
   unfolding match-vector
-  vector-accepted address = no-memory-refusal (kept history) 0
+  vector-accepted address = checks-passed 0
 
   -- Bit L − 1 of the match vector is set exactly if length L is so covered.
   pub vector-covered : (address : ℕ) → address < 2 ^ 32 → match-vector t m address .vector ≡ bits-where (covered t routes address) 32

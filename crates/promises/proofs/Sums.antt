@@ -5,7 +5,7 @@ use mathlib.Core.Bool.{Bool, true, false, cond, _||_}
 use mathlib.Core.List.{List, [], _∷_, List·Memᴰ, List·Memᴰ·head, List·Memᴰ·tail}
 use native.Mathlib.Omega.{arith}
 use Rattle.promises.specs.History.{Route}
-use Rattle.promises.specs.Demands.{sum, number, exists, Reordered, Nothing, First, Swapped, Then}
+use Rattle.promises.specs.Demands.{sum, number, exists, Reordered, Nothing, First, Swapped, Again}
 
 -- a Bool's cases, with the equation
 pub by-cases {ℓ} : {A : Type ℓ} (b : Bool) → (b ≡ true → A) → (b ≡ false → A) → A
@@ -19,7 +19,7 @@ unfolding sum
 sum-reordered weight Nothing = refl
 sum-reordered weight (First r same) = ap (λ (n : ℕ). weight r + n) (sum-reordered weight same)
 sum-reordered weight (Swapped r q routes) = omega arith
-sum-reordered weight (Then one other) = sum-reordered weight one ∙ sum-reordered weight other
+sum-reordered weight (Again one other) = sum-reordered weight one ∙ sum-reordered weight other
 
 -- a stored route's own weight is part of the sum
 pub weight-within : (weight : Route → ℕ) {r : Route} {routes : List Route} → List·Memᴰ r routes → weight r ≤ sum weight routes

@@ -133,7 +133,7 @@ pub data Reordered : List Route → List Route → Type 0 where
   Nothing : Reordered [] []
   First : (r : Route) {one other : List Route} → Reordered one other → Reordered (r ∷ one) (r ∷ other)
   Swapped : (r q : Route) (routes : List Route) → Reordered (r ∷ q ∷ routes) (q ∷ r ∷ routes)
-  Then : {one other third : List Route} → Reordered one other → Reordered other third → Reordered one third
+  Again : {one other third : List Route} → Reordered one other → Reordered other third → Reordered one third
 
 -- ---- The longest match
 

@@ -40,17 +40,7 @@ pub record Honest (acting : Acting) (asking : Asking) : Type 0 where
   pub after : (t : Settings) (before : Memory) (calls : List Call) → acting t Clear before .refusal ≡ 0 → all-word-sized calls ≡ true
       → Promised acting asking t (history-by acting t before calls .last) (stored calls (history-by acting t before calls .answers))
 
--- ---- The program of the rules
-
--- its calls,
-unfoldable pub our-calls : Acting
-our-calls t call m = act t call m
-
--- and its lookups
-unfoldable pub our-lookups : Asking
-our-lookups t m address = lookup t m address
-
--- ---- Programs that differ from it in one call
+-- ---- Programs that differ from the rules in one call
 
 -- another clear,
 abbrev pub with-clear : (Settings → Memory → Outcome) → Acting
@@ -85,3 +75,13 @@ abbrev pub with-probes : (Settings → Memory → (address : ℕ) → ℕ) → A
 with-probes probes t m address =
     let a = lookup t m address in
     record { refusal = a .refusal; found = a .found; hop = a .hop; length = a .length; probes = probes t m address }
+
+-- ---- The program of the rules
+
+-- its calls,
+unfoldable pub our-calls : Acting
+our-calls t call m = act t call m
+
+-- and its lookups
+unfoldable pub our-lookups : Asking
+our-lookups t m address = lookup t m address
