@@ -14,10 +14,11 @@ use Rattle.rules.specs.declared.Settings.{Settings}
 use Rattle.rules.specs.declared.Place.{Place}
 use Rattle.rules.specs.Tools.{those}
 use Rattle.rules.specs.Table.{prefix, occupied, hop-of, default-mark, holds, held, Memory, refuse, memory-refusal, route-refusal, add-refusal, withdraw-refusal, change-refusal, unless-refused, clear, add, withdraw, change, match-vector, down-from, bit-set, set-bits, vector-of, found-or, search as searched, route-answer, default-answer, place-answer, refused, answer-of, lookup, list-refusal, listed, c-list-refusal, c-lookup-list}
+use Rattle.rules.specs.Calls.{run}
 use Rattle.rules.proofs.Marks.{hop-high}
 use Rattle.rules.proofs.Members.{both}
 use Rattle.rules.proofs.Lowest.{some-lowest}
-use Rattle.message_format.specs.Reading.{message-refusal, read-routes, counts, refused-message, apply-message as do-message}
+use Rattle.message_format.specs.Reading.{message-refusal, message-calls, counts, refused-message, apply-message as do-message}
 use Rattle.message_format.specs.Writing.{writing-refusal, write-withdrawal}
 use Rattle.message_format.proofs.Counting.{counts-fit}
 use Rattle.c_numbers.specs.Fitting.{refusals-end, RefusalFits, Fits, CountsFit}
@@ -78,7 +79,7 @@ message-fits t m message hops =
     let fit = counts-fit t m message hops in
     record { refusal = go (eqb (message-refusal t m message hops) 0); accepted = fit .0; refused = fit .1 }
   where
-    go : (b : Bool) → RefusalFits (cond b (counts (read-routes t m message hops)) (refused-message (message-refusal t m message hops) m) .report .refusal)
+    go : (b : Bool) → RefusalFits (cond b (counts (run t m (message-calls message hops))) (refused-message (message-refusal t m message hops) m) .report .refusal)
     go true = none-fits
     go false = number-fits t m message hops
 

@@ -1,22 +1,39 @@
 -- A whole message: which number it is given, and that its two walks are all that it does.
-use Prim.Native.Nat.{ℕ, _+_, _≤_, _<_}
+use Prim.Native.Nat.{ℕ, suc, _≤_}
 use mathlib.Core.Path.{_≡_, refl, sym, ap, _∙_}
 use mathlib.Core.Bool.{Bool, true, false, not, _&&_}
-use mathlib.Core.List.{List}
-use lib.ListN.{length}
-use native.Mathlib.Nat.{suc-ne-zero, zero-add}
+use mathlib.Core.List.{List, []}
+use mathlib.Core.Option.{Option, some, none}
+use lib.ListN.{length, length-map}
+use native.Mathlib.Nat.{suc-ne-zero}
 use native.Mathlib.Omega.{arith}
 use borrow.Author.Tests.{ltb-false}
 use Rattle.rules.specs.declared.Settings.{Settings}
 use Rattle.rules.specs.Table.{lent, memory-refusal, refuse}
 use Rattle.rules.proofs.Members.{both}
 use Rattle.rules.proofs.Refusals.{memory-passing}
-use Rattle.message_format.specs.declared.Report.{Report}
-use Rattle.message_format.specs.Format.{prefixes-fit, prefixes, header-good, withdrawn-from, withdrawn-to, attributes-from, announced-from, attributes-good, parts-fit, contents-good, well-formed, announces, withdrawn-prefixes, announced-prefixes}
-use Rattle.message_format.specs.Reading.{Counted, each, withdrawing, adding, none-yet, read-routes, is-hop, hop-or-0, hop-in, message-refusal, counts, refused-message, apply-message, reported}
+use Rattle.message_format.specs.Format.{prefixes-fit, prefixes, header-good, withdrawn-from, withdrawn-to, attributes-from, announced-from, attributes-good, parts-fit, contents-good, well-formed, announces, message-hop, withdrawn-prefixes, announced-prefixes}
+use Rattle.message_format.specs.Reading.{is-hop, hop-in, message-refusal, withdrawals, announcements, message-calls, refused-message, apply-message, reported}
 use Rattle.message_format.proofs.Walks.{prefixes-none}
-use Rattle.message_format.proofs.Counting.{parts, each-total, prefixes-few, message-accepted, message-refused}
-use Rattle.message_calls.specs.Walks.{done, refused-report, so-many, Fitting}
+use Rattle.message_format.proofs.Counting.{parts, prefixes-few, message-accepted, message-refused}
+use Rattle.message_cursors.specs.declared.Prefixes.{Prefixes}
+use Rattle.message_readers.specs.declared.NextHop.{NextHop}
+use Rattle.message_readers.specs.declared.Hop.the-variants.{At, Missing}
+use Rattle.message_readers.specs.declared.Message.the-variants.{Good, Fault}
+use Rattle.message_readers.specs.Readings.{given, hop-number, hop-due, message-read, message-number}
+use Rattle.message_readers.proofs.Headers.{read-refused, message-told}
+use Rattle.message_readers.proofs.Places.{due-refused, due-told}
+use Rattle.message_calls.specs.declared.Counts.{Counts}
+use Rattle.message_calls.specs.declared.Task.the-variants.{Withdraw, Add}
+use Rattle.message_calls.specs.Walks.{first-number, task-call, part-calls, none-counted, Few, counts-report, refused-report, walked, walked-to, Fitting}
+use Rattle.message_calls.proofs.Tallies.{few-none, few-within, walked-few, walked-then, walk-reported}
+
+-- where the withdrawn routes stand, and the announced ones
+abbrev pub withdrawn-part : (message : List ℕ) → Prefixes
+withdrawn-part message = record { at = 21; end = withdrawn-to message }
+
+abbrev pub announced-part : (message : List ℕ) → Prefixes
+announced-part message = record { at = announced-from message; end = length message }
 
 -- ---- Parts of a well-formed message
 
@@ -28,60 +45,51 @@ module _ (message : List ℕ) (good : well-formed message ≡ true) where
       let first = both (prefixes-fit message withdrawn-from (withdrawn-to message)) _ inside in
       (first .0, both (attributes-good message (attributes-from message) (announced-from message)) _ (first .1) .1)
 
-  pub withdrawn-fits : Fitting message (record { at = 21; end = withdrawn-to message }) (refused-report 0)
+  pub withdrawn-fits : Fitting message (withdrawn-part message) none-counted
   withdrawn-fits =
       let lie = parts message good in
-      record { inside = omega arith; short = lie .short; fits = contents .0; few = omega arith; fresh = refl }
+      record { inside = omega arith; short = lie .short; fits = contents .0; few = few-within few-none (omega arith) }
 
-  pub announced-fits : {report : Report} → report .refusal ≡ 0 → report .accepted + report .refused ≡ length (withdrawn-prefixes message)
-      → Fitting message (record { at = announced-from message; end = length message }) report
-  unfolding withdrawn-prefixes
-  announced-fits {report} fresh total =
+  pub announced-fits : (t : Settings) (counters slots : List ℕ) {r : Counts} {counters' slots' : List ℕ}
+      → walked t (lent counters slots) none-counted (part-calls Withdraw message (withdrawn-part message)) ≡ walked-to r counters' slots'
+      → Fitting message (announced-part message) r
+  unfolding part-calls
+  announced-fits t counters slots walked-first =
       let lie = parts message good in
-      record {
-        inside = omega arith;
-        short = lie .short;
-        fits = contents .1;
-        few = omega (arith, total, prefixes-few message withdrawn-from (withdrawn-to message));
-        fresh = fresh;
-      }
+      let few : length (part-calls Withdraw message (withdrawn-part message)) ≤ announced-from message =
+      rw length-map (omega (arith, prefixes-few message withdrawn-from (withdrawn-to message)))
+      in
+      record { inside = omega arith; short = lie .short; fits = contents .1; few = few-within (walked-few t _ _ walked-first) few }
 
--- ---- The hop
+-- ---- The calls
 
 -- where nothing is announced any hop does
-same-adds : (t : Settings) (message : List ℕ) {hop other : ℕ} → (announces message ≡ true → hop ≡ other)
-    → (so-far : Counted) → each (adding t hop) so-far (announced-prefixes message) ≡ each (adding t other) so-far (announced-prefixes message)
-unfolding announces announced-prefixes each
-same-adds t message {hop} {other} is so-far = go (announces message) refl
+same-adds : (message hops : List ℕ) {hop : ℕ} → (announces message ≡ true → hop-in message hops ≡ some hop)
+    → announcements (hop-in message hops) (announced-prefixes message) ≡ part-calls (Add hop) message (announced-part message)
+unfolding announcements announced-prefixes announces part-calls task-call
+same-adds message hops {hop} is = go (announces message) refl
   where
-    go : (b : Bool) → announces message ≡ b
-        → each (adding t hop) so-far (prefixes message (announced-from message) (length message)) ≡ each (adding t other) so-far (prefixes message (announced-from message) (length message))
+    nothing : (o : Option ℕ) → announcements o [] ≡ []
+    nothing none = refl
+    nothing (some place) = refl
+
+    go : (b : Bool) → announces message ≡ b → announcements (hop-in message hops) (announced-prefixes message) ≡ part-calls (Add hop) message (announced-part message)
     go true e = rw (is e)
-    go false e = rw (prefixes-none message (announced-from message) (length message) (ltb-false _ _ e))
+    go false e = rw (prefixes-none message (announced-from message) (length message) (ltb-false _ _ e)) (nothing (hop-in message hops))
 
--- ---- What a walk's report tells
+-- ---- The number
 
-counted-so : {k : Counted} {r : Report} {counters slots : List ℕ} → counts k ≡ reported r counters slots → (k ≡ so-many r (lent counters slots)) × (r .refusal ≡ 0)
-unfolding counts
-counted-so e = (ap (λ u. record { accepted = u .report .accepted; refused = u .report .refused; memory = u .memory }) e, sym (ap (λ u. u .report .refusal) e))
-
--- ---- The first walk
-
-module _ (t : Settings) (counters slots message : List ℕ) where
-  -- the withdrawn routes
-  abbrev pub first : Counted
-  first = done (withdrawing t) message (record { at = 21; end = withdrawn-to message }) (refused-report 0) (lent counters slots)
-
-  pub then-fits : well-formed message ≡ true → {r : Report} {counters' slots' : List ℕ} → counts first ≡ reported r counters' slots'
-      → Fitting message (record { at = announced-from message; end = length message }) r
-  unfolding withdrawn-prefixes
-  then-fits good walked =
-      let so = counted-so walked in
-      announced-fits message good (so .1)
-      (rw (zero-add, ap (λ k. k .accepted + k .refused) (so .0)) at (each-total (withdrawing t) (none-yet (lent counters slots)) (prefixes message 21 (withdrawn-to message))))
+refuse-first : (bad : Bool) (number after : ℕ) → refuse bad (suc number) after ≡ first-number (refuse bad (suc number) 0) after
+unfolding refuse first-number
+refuse-first true number after = refl
+refuse-first false number after = refl
 
 module _ (t : Settings) (counters slots message hops : List ℕ) where
-  -- ---- The number
+  -- A message is given 1 or 2 as every call, then the number that reading it means, then the one that looking for its hop means.
+  pub number-read : message-refusal t (lent counters slots) message hops
+      ≡ memory-refusal t (lent counters slots) (first-number (message-number (message-read message)) (hop-number (hop-due (announces message) (given (message-hop message)) hops)))
+  unfolding message-refusal hop-in
+  number-read = ap (memory-refusal t (lent counters slots)) (rw (read-refused message, due-refused (message-hop message) hops (announces message)) (refuse-first (not (well-formed message)) 11 _))
 
   refused-as : {number : ℕ} → message-refusal t (lent counters slots) message hops ≡ number → (number ≡ 0 → ⊥)
       → apply-message t (lent counters slots) message hops ≡ reported (refused-report number) counters slots
@@ -90,33 +98,32 @@ module _ (t : Settings) (counters slots message hops : List ℕ) where
 
   pub memory-refused : {number : ℕ} → number ≡ memory-refusal t (lent counters slots) 0 → (number ≡ 0 → ⊥)
       → apply-message t (lent counters slots) message hops ≡ reported (refused-report number) counters slots
-  unfolding message-refusal
-  memory-refused e bad =
-      refused-as (memory-passing t (lent counters slots) .refuses (λ zero. bad (e ∙ zero)) _ ∙ sym e) bad
+  memory-refused e bad = refused-as (number-read ∙ memory-passing t (lent counters slots) .refuses (λ zero. bad (e ∙ zero)) _ ∙ sym e) bad
 
   module _ (memory : memory-refusal t (lent counters slots) 0 ≡ 0) where
-    past-memory : message-refusal t (lent counters slots) message hops ≡ refuse (not (well-formed message)) 12 (refuse (announces message && not (is-hop (hop-in message hops))) 13 0)
-    unfolding message-refusal
-    past-memory = memory-passing t (lent counters slots) .accepts memory _
+    past-memory : message-refusal t (lent counters slots) message hops
+        ≡ first-number (message-number (message-read message)) (hop-number (hop-due (announces message) (given (message-hop message)) hops))
+    past-memory = number-read ∙ memory-passing t (lent counters slots) .accepts memory _
 
-    pub twelve : well-formed message ≡ false → apply-message t (lent counters slots) message hops ≡ reported (refused-report 12) counters slots
-    unfolding refuse
-    twelve bad = refused-as (past-memory ∙ rw bad) (suc-ne-zero 11)
+    pub faulty : message-read message ≡ Fault → apply-message t (lent counters slots) message hops ≡ reported (refused-report 12) counters slots
+    unfolding first-number message-number
+    faulty read = refused-as (past-memory ∙ rw read) (suc-ne-zero 11)
 
-    module _ (good : well-formed message ≡ true) where
-      pub thirteen : announces message ≡ true → is-hop (hop-in message hops) ≡ false
+    module _ {withdrawn-to announced-from : ℕ} {next-hop : NextHop} (read : message-read message ≡ Good withdrawn-to announced-from next-hop) where
+      pub hopless : hop-due (announces message) (given (message-hop message)) hops ≡ Missing
           → apply-message t (lent counters slots) message hops ≡ reported (refused-report 13) counters slots
-      unfolding refuse
-      thirteen more bad = refused-as (past-memory ∙ rw (good, more, bad)) (suc-ne-zero 12)
+      unfolding first-number message-number hop-number
+      hopless due = refused-as (past-memory ∙ rw (read, due)) (suc-ne-zero 12)
 
       -- ---- Both walks
 
-      pub both-walks : announces message && not (is-hop (hop-in message hops)) ≡ false → {hop : ℕ} → (announces message ≡ true → hop-or-0 (hop-in message hops) ≡ hop)
-          → {r : Report} {counters' slots' : List ℕ} → counts (first t counters slots message) ≡ reported r counters' slots'
-          → {last : Report} {counters″ slots″ : List ℕ}
-          → counts (done (adding t hop) message (record { at = announced-from message; end = length message }) r (lent counters' slots')) ≡ reported last counters″ slots″
-          → apply-message t (lent counters slots) message hops ≡ reported last counters″ slots″
-      unfolding refuse read-routes withdrawn-prefixes announced-prefixes
-      both-walks known is walked walked-on =
-          message-accepted t (lent counters slots) message hops (past-memory ∙ rw (good, known))
-          ∙ rw (same-adds t message is _, counted-so walked .0) walked-on
+      pub both-walks : {hop : ℕ} → hop-due (announces message) (given (message-hop message)) hops ≡ At hop
+          → {r : Counts} {counters' slots' : List ℕ} → walked t (lent counters slots) none-counted (part-calls Withdraw message (withdrawn-part message)) ≡ walked-to r counters' slots'
+          → {last : Counts} {counters″ slots″ : List ℕ} → walked t (lent counters' slots') r (part-calls (Add hop) message (announced-part message)) ≡ walked-to last counters″ slots″
+          → apply-message t (lent counters slots) message hops ≡ reported (counts-report last) counters″ slots″
+      unfolding first-number message-number hop-number hop-in message-calls withdrawals withdrawn-prefixes part-calls task-call
+      both-walks due first second =
+          message-accepted t (lent counters slots) message hops (past-memory ∙ rw (read, due))
+          ∙ walk-reported t (lent counters slots) (message-calls message hops)
+          (walked-then t (lent counters slots) none-counted _ _ first
+          ∙ rw (same-adds message hops (due-told (message-hop message) hops (announces message) due .0)) second)

@@ -1,41 +1,99 @@
--- A walk over a part of a message: what it does, and what it starts from.
-use Prim.Native.Nat.{ℕ, _+_, _≤_}
+-- A walk over a part of a message: the single calls that it makes, what it counts, and what it starts from.
+use Prim.Native.Nat.{ℕ, zero, suc, _+_, _≤_}
 use mathlib.Core.Path.{_≡_}
-use mathlib.Core.Bool.{true, not}
-use mathlib.Core.List.{List}
-use lib.Dec.{eqb}
+use mathlib.Core.Bool.{Bool, true, not}
+use mathlib.Core.List.{List, [], _∷_, map}
+use lib.Dec.{eqb, leb}
 use lib.ListN.{length}
-use Rattle.rules.specs.Table.{Memory, Outcome, one-if}
+use Rattle.rules.specs.declared.Settings.{Settings}
+use Rattle.rules.specs.Table.{Memory, lent, one-if}
+use Rattle.rules.specs.Calls.{Call, Add, Withdraw, run}
 use Rattle.message_format.specs.declared.Report.{Report}
-use Rattle.message_format.specs.Format.{Prefix, prefixes-fit, prefixes}
-use Rattle.message_format.specs.Reading.{Counted, each}
+use Rattle.message_format.specs.Format.{prefixes-fit, prefixes}
 use Rattle.message_cursors.specs.declared.Prefixes.{Prefixes}
+use Rattle.message_calls.specs.declared.Counts.{Counts}
+use Rattle.message_calls.specs.declared.Task.{Task}
+use Rattle.message_calls.specs.declared.Task.the-variants as task
 
--- a report that carries a refusal
-abbrev pub refused-report : (refusal : ℕ) → Report
-refused-report refusal = record { refusal = refusal; accepted = 0; refused = 0 }
+-- ---- Tasks
 
--- one route more in a report
-abbrev pub counted : Report → (number : ℕ) → Report
+-- the single call that a task means for a prefix
+unfoldable pub task-call : Task → (p L : ℕ) → Call
+task-call task.Withdraw p L = Withdraw p L
+task-call (task.Add hop) p L = Add p L hop
+
+-- a hop to add with is one that add takes
+unfoldable pub hop-fits : Task → Bool
+hop-fits task.Withdraw = true
+hop-fits (task.Add hop) = leb hop 65535
+
+-- the single calls of a part, in its order
+unfoldable pub part-calls : Task → (message : List ℕ) → Prefixes → List Call
+part-calls task message part = map (λ q. task-call task (q .prefix) (q .length)) (prefixes message (part .at) (part .end))
+
+-- ---- Counts
+
+-- To count more of the answers, widen `Counts`, `none-counted`, `counted` and what is made of them, `counts-report`; then mend
+-- `count` with its proof and proofs/Tallies.antt. The walk and its proof know `tallied` alone.
+
+-- nothing is counted yet
+abbrev pub none-counted : Counts
+none-counted = record { accepted = 0; refused = 0 }
+
+-- one answer more
+unfoldable pub counted : Counts → (number : ℕ) → Counts
 counted earlier number =
     record {
-      refusal = 0;
       accepted = earlier .accepted + one-if (eqb number 0);
       refused = earlier .refused + one-if (not (eqb number 0));
     }
 
--- the routes that a report has counted, with the memory as they left it
-abbrev pub so-many : Report → Memory → Counted
-so-many report m = record { accepted = report .accepted; refused = report .refused; memory = m }
+-- each of these answers, in their order
+unfoldable pub tallied : Counts → (answers : List ℕ) → Counts
+tallied earlier [] = earlier
+tallied earlier (number ∷ answers) = tallied (counted earlier number) answers
 
--- what a walk over a part does, after the routes that a report has counted
-abbrev pub done : (call : Memory → Prefix → Outcome) (message : List ℕ) → Prefixes → Report → Memory → Counted
-done call message part earlier m = each call (so-many earlier m) (prefixes message (part .at) (part .end))
+-- the counts of so many answers at most
+pub record Few (counts : Counts) (most : ℕ) : Type 0 where
+  pub answers : List ℕ
+  pub tally : counts ≡ tallied none-counted answers
+  pub few : length answers ≤ most
 
--- a part of a message whose prefixes fit, after fewer routes than bytes
-pub record Fitting (message : List ℕ) (part : Prefixes) (earlier : Report) : Type 0 where
+-- ---- Reports
+
+-- the report of a refused message
+abbrev pub refused-report : (refusal : ℕ) → Report
+refused-report refusal = record { refusal = refusal; accepted = 0; refused = 0 }
+
+-- the report of a message whose calls were counted
+abbrev pub counts-report : Counts → Report
+counts-report counts = record { refusal = 0; accepted = counts .accepted; refused = counts .refused }
+
+-- the first of two numbers that is given: the second counts where the first is 0
+unfoldable pub first-number : (number after : ℕ) → ℕ
+first-number zero after = after
+first-number (suc number) after = suc number
+
+-- ---- Walks
+
+-- what a walk gives back and leaves
+pub record Walked : Type 0 where
+  pub counts : Counts
+  pub memory : Memory
+
+-- the counts, and the two lists as they are left
+abbrev pub walked-to : Counts → (counters slots : List ℕ) → Walked
+walked-to counts counters slots = record { counts = counts; memory = lent counters slots }
+
+-- calls made one after the other, and counted after earlier ones
+unfoldable pub walked : Settings → Memory → Counts → List Call → Walked
+walked t m earlier calls =
+    let made = run t m calls in
+    record { counts = tallied earlier (made .answers); memory = made .last }
+
+-- a part of a message whose prefixes fit, after fewer calls than bytes
+pub record Fitting (message : List ℕ) (part : Prefixes) (earlier : Counts) : Type 0 where
   pub inside : part .end ≤ length message
   pub short : length message ≤ 4096
   pub fits : prefixes-fit message (part .at) (part .end) ≡ true
-  pub few : earlier .accepted + earlier .refused ≤ part .at
-  pub fresh : earlier .refusal ≡ 0
+  pub few : Few earlier (part .at)

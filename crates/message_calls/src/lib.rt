@@ -1,12 +1,13 @@
-// A neighbour's message, read and done: every check is passed before the first byte of the table is
+// A neighbour's message, read and applied: every check is passed before the first byte of the table is
 // written. The call requires nothing: bad input gets its number and changes nothing.
-ghost use Prim.Native.Nat.{_+_, _≤_};
 ghost use mathlib.Core.Path.{_≡_};
 ghost use mathlib.Core.Bool.{true};
-ghost use Rattle.rules.specs.Table.{lent, in-range};
+ghost use Rattle.rules.specs.Table.{lent, left, in-range};
+ghost use Rattle.rules.specs.Calls.{act};
 ghost use Rattle.rules.specs.Ready.{Counters, Slots};
-ghost use Rattle.message_format.specs.Reading.{withdrawing, adding, counts, apply-message, reported};
-ghost use Rattle.message_calls.specs.Walks.{done, refused-report, counted, Fitting};
+ghost use Rattle.updates.specs.Checked.{Checked};
+ghost use Rattle.message_format.specs.Reading.{apply-message, reported};
+ghost use Rattle.message_calls.specs.Walks.{refused-report, counts-report, counted, Few, task-call, hop-fits, part-calls, walked, walked-to, Fitting};
 use message_cursors::NextPrefix;
 use message_cursors::Prefixes;
 use message_format::Report;
@@ -30,43 +31,85 @@ fn report_refused(refusal: u32) -> Report
     }
 }
 
-// The report with one route more, which was given this number.
-fn count(earlier: Report, number: u32) -> Report
-    requires { ⌜ earlier .accepted + earlier .refused ≤ 4096 ⌝ }
+// How many single calls were accepted, and how many were refused.
+struct Counts {
+    accepted: u32,
+    refused: u32,
+}
+
+// The counts with one call more, which was given this number.
+fn count(earlier: Counts, number: u32) -> Counts
+    requires { ⌜ Few earlier 4096 ⌝ }
     ensures { λ r. ⌜ r ≡ counted earlier number ⌝ }
 {
     if number == 0 {
-        Report {
-            refusal: 0,
+        Counts {
             accepted: earlier.accepted + 1,
             refused: earlier.refused,
         }
     } else {
-        Report {
-            refusal: 0,
+        Counts {
             accepted: earlier.accepted,
             refused: earlier.refused + 1,
         }
     }
 }
 
-// Withdraws each prefix of a part, in their order, and counts on.
-fn withdraw_each(
+// The report of a message whose calls were counted.
+fn report_counts(counts: Counts) -> Report
+    ensures { λ r. ⌜ r ≡ counts-report counts ⌝ }
+{
+    Report {
+        refusal: 0,
+        accepted: counts.accepted,
+        refused: counts.refused,
+    }
+}
+
+// What is done with each prefix of a part: it is withdrawn, or added with this hop.
+enum Task {
+    Withdraw,
+    Add(u32),
+}
+
+// Makes the single call of a task for one prefix.
+fn apply_task(
+    settings: Settings,
+    counters: &mut [u8],
+    slots: &mut [u32],
+    task: Task,
+    prefix: u32,
+    length: u32,
+) -> u32
+    requires { ⌜ Checked settings (now counters) (now slots) prefix length ⌝ }
+    requires { ⌜ hop-fits task ≡ true ⌝ }
+    ensures { λ r. ⌜ act settings (task-call task prefix length) (lent (now (counters .entry)) (now (slots .entry))) ≡ left r (now (counters .exit)) (now (slots .exit)) ⌝ }
+{
+    match task {
+        Task::Withdraw => withdraw_checked(settings, counters, slots, prefix, length),
+        Task::Add(hop) => add_checked(settings, counters, slots, prefix, length, hop),
+    }
+}
+
+// Applies a task to each prefix of a part, in their order, and counts on.
+fn apply_each(
     settings: Settings,
     counters: &mut [u8],
     slots: &mut [u32],
     message: &[u8],
     part: Prefixes,
-    earlier: Report,
-) -> Report
+    task: Task,
+    earlier: Counts,
+) -> Counts
     requires { ⌜ in-range settings ≡ true ⌝ }
     requires { ⌜ Counters settings (now counters) ⌝ }
     requires { ⌜ Slots settings (now slots) ⌝ }
     requires { ⌜ Fitting (now message) part earlier ⌝ }
-    ensures { λ r. ⌜ counts (done (withdrawing settings) (now (message .entry)) part earlier (lent (now (counters .entry)) (now (slots .entry)))) ≡ reported r (now (counters .exit)) (now (slots .exit)) ⌝ }
+    requires { ⌜ hop-fits task ≡ true ⌝ }
+    ensures { λ r. ⌜ walked settings (lent (now (counters .entry)) (now (slots .entry))) earlier (part-calls task (now (message .entry)) part) ≡ walked-to r (now (counters .exit)) (now (slots .exit)) ⌝ }
 {
     let mut rest = part;
-    let mut report = earlier;
+    let mut counts = earlier;
     loop {
         match rest.next(message) {
             NextPrefix::Prefix {
@@ -74,62 +117,22 @@ fn withdraw_each(
                 length,
                 rest: after,
             } => {
-                let number = withdraw_checked(settings, counters, slots, prefix, length);
-                report = count(report, number);
+                let number = apply_task(settings, counters, slots, task, prefix, length);
+                counts = count(counts, number);
                 rest = after;
             }
             NextPrefix::End => {
-                return report;
+                return counts;
             }
             // There is none in a message that was read from end to end.
             NextPrefix::Fault => {
-                return report;
+                return counts;
             }
         }
     }
 }
 
-// Adds each prefix of a part with this hop, in their order, and counts on.
-fn add_each(
-    settings: Settings,
-    counters: &mut [u8],
-    slots: &mut [u32],
-    message: &[u8],
-    part: Prefixes,
-    hop: u32,
-    earlier: Report,
-) -> Report
-    requires { ⌜ in-range settings ≡ true ⌝ }
-    requires { ⌜ Counters settings (now counters) ⌝ }
-    requires { ⌜ Slots settings (now slots) ⌝ }
-    requires { ⌜ Fitting (now message) part earlier ⌝ }
-    requires { ⌜ hop ≤ 65535 ⌝ }
-    ensures { λ r. ⌜ counts (done (adding settings hop) (now (message .entry)) part earlier (lent (now (counters .entry)) (now (slots .entry)))) ≡ reported r (now (counters .exit)) (now (slots .exit)) ⌝ }
-{
-    let mut rest = part;
-    let mut report = earlier;
-    loop {
-        match rest.next(message) {
-            NextPrefix::Prefix {
-                prefix,
-                length,
-                rest: after,
-            } => {
-                let number = add_checked(settings, counters, slots, prefix, length, hop);
-                report = count(report, number);
-                rest = after;
-            }
-            NextPrefix::End => {
-                return report;
-            }
-            NextPrefix::Fault => {
-                return report;
-            }
-        }
-    }
-}
-
-// Does one message: its withdrawn routes in order, then its announced ones, whose hop is the lowest place
+// Applies one message: its withdrawn routes in order, then its announced ones, whose hop is the lowest place
 // of NEXT_HOP in the list. A route that the table refuses is counted and skipped.
 pub fn apply_message(
     settings: Settings,
@@ -163,13 +166,26 @@ pub fn apply_message(
         at: announced_from,
         end: message.len(),
     };
-    let earlier = withdraw_each(
+    let earlier = Counts {
+        accepted: 0,
+        refused: 0,
+    };
+    let between = apply_each(
         settings,
         counters,
         slots,
         message,
         withdrawn,
-        report_refused(0),
+        Task::Withdraw,
+        earlier,
     );
-    add_each(settings, counters, slots, message, announced, hop, earlier)
+    report_counts(apply_each(
+        settings,
+        counters,
+        slots,
+        message,
+        announced,
+        Task::Add(hop),
+        between,
+    ))
 }

@@ -1,12 +1,13 @@
 -- What a step gives, by what stands at the cursor.
 use Prim.Native.Nat.{ℕ, _+_, _≤_, _<_}
 use mathlib.Core.Path.{_≡_, refl, subst}
-use mathlib.Core.Bool.{Bool, true, false}
+use mathlib.Core.Bool.{Bool, true, false, cond, not, _&&_}
 use mathlib.Core.List.{List}
 use lib.ListN.{length}
 use lib.Dec.{ltb, leb}
 use native.Mathlib.Omega.{arith}
 use borrow.Author.Tests.{leb-true, ltb-true, ltb-false, lt-ltb, le-ltb, le-leb, lt-leb}
+use Rattle.rules.specs.Table.{refuse}
 use Rattle.rules.proofs.Members.{both}
 use Rattle.message_format.specs.Format.{byte, prefix-from, after-prefix, prefix-fits, extended, type-of, value-from, value-size, after-attribute, attribute-fits}
 use Rattle.message_cursors.specs.declared.Prefixes.{Prefixes}
@@ -15,7 +16,7 @@ use Rattle.message_cursors.specs.declared.NextPrefix.the-variants as pre
 use Rattle.message_cursors.specs.declared.Attributes.{Attributes}
 use Rattle.message_cursors.specs.declared.NextAttribute.{NextAttribute}
 use Rattle.message_cursors.specs.declared.NextAttribute.the-variants as attribute
-use Rattle.message_cursors.specs.Steps.{step, read-prefix, next-prefix, read-attribute, next-attribute}
+use Rattle.message_cursors.specs.Steps.{step, read-prefix, next-prefix, prefix-number, read-attribute, next-attribute, attribute-number}
 
 -- ---- What fits
 
@@ -82,7 +83,29 @@ module _ {A : Type 0} (size at end : ℕ) (fits : Bool) (read nothing fault : A)
         go true false el ef = rw (faulty (ltb-true _ _ el) ef) (faults (ltb-true _ _ el) ef)
         go false f el ef = rw (ended (ltb-false _ _ el)) (ends (ltb-false _ _ el))
 
--- ---- What a step's answer tells
+    -- a step whose fault alone has a number, 12, has it exactly if something is left that does not fit
+    step-number : (number : A → ℕ) → number read ≡ 0 → number nothing ≡ 0 → number fault ≡ 12 → number stepped ≡ refuse (ltb at end && not fits) 12 0
+    unfolding step refuse
+    step-number number reads ends faults = simp (le-ltb _ _ inside) (go (ltb at end) fits)
+      where
+        go : (more f : Bool) → number (cond more (cond f read fault) nothing) ≡ cond (more && not f) 12 0
+        go true true = reads
+        go true false = faults
+        go false f = ends
+
+-- ---- What a step's answer means, and what it tells
+
+-- Number 12 is meant exactly where a prefix is left that does not fit,
+pub prefix-refused : (bytes : List ℕ) (c : Prefixes) → c .end ≤ length bytes
+    → prefix-number (next-prefix bytes c) ≡ refuse (ltb (c .at) (c .end) && not (prefix-fits bytes (c .at) (c .end))) 12 0
+unfolding next-prefix read-prefix prefix-number
+prefix-refused bytes c inside = step-number _ _ _ _ _ _ _ inside prefix-number refl refl refl
+
+-- or an attribute.
+pub attribute-refused : (bytes : List ℕ) (c : Attributes) → c .end ≤ length bytes
+    → attribute-number (next-attribute bytes c) ≡ refuse (ltb (c .at) (c .end) && not (attribute-fits bytes (c .at) (c .end))) 12 0
+unfolding next-attribute read-attribute attribute-number
+attribute-refused bytes c inside = step-number _ _ _ _ _ _ _ inside attribute-number refl refl refl
 
 -- a prefix was read, and the cursor moved past it
 pub record Moved (bytes : List ℕ) (c : Prefixes) (p L : ℕ) (rest : Prefixes) : Type 0 where

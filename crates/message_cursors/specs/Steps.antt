@@ -27,6 +27,12 @@ unfoldable pub next-prefix : (bytes : List ℕ) → Prefixes → NextPrefix
 next-prefix bytes c =
     step (length bytes) (c .at) (c .end) (prefix-fits bytes (c .at) (c .end)) (read-prefix bytes c) prefix.End prefix.Fault
 
+-- the number that an answer means: a prefix that is read has none, nor has the end of the part; a fault is 12
+unfoldable pub prefix-number : NextPrefix → ℕ
+prefix-number (prefix.Prefix p L rest) = 0
+prefix-number prefix.End = 0
+prefix-number prefix.Fault = 12
+
 -- the attribute at the cursor, with the cursor moved to where the next one starts
 unfoldable pub read-attribute : (bytes : List ℕ) → Attributes → NextAttribute
 read-attribute bytes c =
@@ -37,3 +43,9 @@ read-attribute bytes c =
 unfoldable pub next-attribute : (bytes : List ℕ) → Attributes → NextAttribute
 next-attribute bytes c =
     step (length bytes) (c .at) (c .end) (attribute-fits bytes (c .at) (c .end)) (read-attribute bytes c) attribute.End attribute.Fault
+
+-- the number that an answer means, as for prefixes
+unfoldable pub attribute-number : NextAttribute → ℕ
+attribute-number (attribute.Attribute kind from size rest) = 0
+attribute-number attribute.End = 0
+attribute-number attribute.Fault = 12

@@ -1,52 +1,25 @@
 -- Counts add up: each route of a message is accepted or refused, and a message has fewer of them than 4,096.
-use Prim.Native.Nat.{ℕ, _+_, _-_, _^_, _≤_, _<_}
-use mathlib.Core.Path.{_≡_, refl}
-use mathlib.Core.Bool.{Bool, true, false, not, _&&_}
-use mathlib.Core.List.{List, [], _∷_}
+use Prim.Native.Nat.{ℕ, suc, _+_, _-_, _^_, _≤_, _<_}
+use mathlib.Core.Path.{_≡_, refl, sym, _∙_}
+use mathlib.Core.Bool.{Bool, true, false, not, _&&_, and-true}
+use mathlib.Core.List.{List, [], _++_, append-nil}
 use mathlib.Core.Logic.{_≢_}
+use mathlib.Core.Option.{Option, some, none}
+use native.Mathlib.Nat.{suc-ne-zero}
 use native.Mathlib.Omega.{arith}
 use lib.Dec.{eqb, leb}
-use lib.ListN.{length}
-use borrow.Author.Tests.{leb-true, eqb-true, eqb-false, ne-eqb, eq-eqb, not-false}
+use lib.ListN.{length, length-append, length-map}
+use borrow.Author.Tests.{leb-true, ltb-false, eqb-true, eqb-false, ne-eqb, eq-eqb, not-false}
 use Rattle.rules.specs.declared.Settings.{Settings}
 use Rattle.rules.specs.Tools.{within}
-use Rattle.rules.specs.Table.{Memory, Outcome, one-if}
+use Rattle.rules.specs.Table.{Memory, refuse}
+use Rattle.rules.specs.Calls.{run}
+use Rattle.rules.proofs.Calls.{answers-length, counted-all}
 use Rattle.rules.proofs.Members.{both, within-true}
 use Rattle.rules.proofs.Refusals.{passed, memory-passed}
-use Rattle.message_format.specs.Format.{Prefix, after-prefix, prefixes, header-good, withdrawn-from, withdrawn-to, attributes-from, announced-from, parts-fit, withdrawn-prefixes, announced-prefixes, contents-good, well-formed, announces}
-use Rattle.message_format.specs.Reading.{Counted, counting, each, withdrawing, adding, none-yet, read-routes, hop-or-0, hop-in, is-hop, message-refusal, counts, refused-message, apply-message}
+use Rattle.message_format.specs.Format.{after-prefix, prefixes, header-good, withdrawn-from, withdrawn-to, attributes-from, announced-from, parts-fit, withdrawn-prefixes, announced-prefixes, contents-good, well-formed, announces}
+use Rattle.message_format.specs.Reading.{hop-in, is-hop, message-refusal, withdrawals, announcements, message-calls, counts, refused-message, apply-message}
 use Rattle.message_format.proofs.Walks.{by-steps, after-prefix-later, prefixes-none, prefixes-next}
-
--- ---- Each route is accepted or refused
-
--- how many routes were counted
-abbrev pub total : Counted → ℕ
-total so-far = so-far .accepted + so-far .refused
-
--- one single call more is one route more
-pub counting-total : (so-far : Counted) (u : Outcome) → total (counting so-far u) ≡ total so-far + 1
-unfolding counting one-if
-counting-total so-far u = go (eqb (u .refusal) 0)
-  where
-    go : (b : Bool) → so-far .accepted + one-if b + (so-far .refused + one-if (not b)) ≡ so-far .accepted + so-far .refused + 1
-    go true = omega arith
-    go false = omega arith
-
--- each prefix is counted once
-pub each-total : (call : Memory → Prefix → Outcome) (so-far : Counted) (qs : List Prefix) → total (each call so-far qs) ≡ total so-far + length qs
-unfolding each
-each-total call so-far [] = omega arith
-each-total call so-far (q ∷ qs) =
-    let u = call (so-far .memory) q in
-    omega (arith, each-total call (counting so-far u) qs, counting-total so-far u)
-
--- Accepted and refused together are the message's withdrawn and announced prefixes.
-pub routes-total : (t : Settings) (m : Memory) (message hops : List ℕ)
-    → total (read-routes t m message hops) ≡ length (withdrawn-prefixes message) + length (announced-prefixes message)
-unfolding read-routes
-routes-total t m message hops =
-    let first = each (withdrawing t) (none-yet m) (withdrawn-prefixes message) in
-    omega (arith, each-total (withdrawing t) (none-yet m) (withdrawn-prefixes message), each-total (adding t (hop-or-0 (hop-in message hops))) first (announced-prefixes message))
 
 -- ---- A part has no more prefixes than bytes
 
@@ -87,7 +60,13 @@ routes-few message good =
     let lie = parts message good in
     omega (arith, prefixes-few message withdrawn-from (withdrawn-to message), prefixes-few message (announced-from message) (length message))
 
--- ---- What is not refused
+-- ---- What is refused, and what is not
+
+-- a number is given only where what it asks for is not so
+pub refused-so : (good : Bool) (number : ℕ) → refuse (not good) (suc number) 0 ≡ suc number → good ≡ false
+unfolding refuse
+refused-so true number e = absurd (suc-ne-zero number (sym e))
+refused-so false number e = refl
 
 -- what 12 and 13 not given tells
 pub record Passed (message hops : List ℕ) : Type 0 where
@@ -100,9 +79,31 @@ message-passed t m message hops e =
     let twelve = passed (not (well-formed message)) 11 _ (memory-passed t (m .counters) (m .slots) _ e .1) in
     record { good = not-false _ (twelve .0); hop = passed _ 12 0 (twelve .1) .0 }
 
+-- ---- A message's single calls
+
+-- each prefix is one of them, and without a hop no prefix is announced
+module _ (message hops : List ℕ) where
+  one-each : (hop : Option ℕ) → (hop ≡ none → announced-prefixes message ≡ [])
+      → length (withdrawals (withdrawn-prefixes message) ++ announcements hop (announced-prefixes message)) ≡ length (withdrawn-prefixes message) + length (announced-prefixes message)
+  unfolding withdrawals announcements
+  one-each none nothing = rw (nothing refl, append-nil, length-map) (omega arith)
+  one-each (some hop) nothing = simp (length-append, length-map)
+
+  module _ (passed : Passed message hops) where
+    nothing-announced : hop-in message hops ≡ none → announced-prefixes message ≡ []
+    unfolding is-hop announces announced-prefixes
+    nothing-announced missing =
+        prefixes-none message (announced-from message) (length message)
+        (ltb-false _ _ (sym (and-true (announces message)) ∙ (rw missing at (passed .hop))))
+
+    -- A message that is not refused has a call for each of its withdrawn and announced prefixes.
+    pub calls-total : length (message-calls message hops) ≡ length (withdrawn-prefixes message) + length (announced-prefixes message)
+    unfolding message-calls
+    calls-total = one-each (hop-in message hops) nothing-announced
+
 module _ (t : Settings) (m : Memory) (message hops : List ℕ) where
-  -- An accepted message is given its routes' counts, and leaves the memory as they do.
-  pub message-accepted : message-refusal t m message hops ≡ 0 → apply-message t m message hops ≡ counts (read-routes t m message hops)
+  -- An accepted message is given the counts of its calls, and leaves the memory as they do.
+  pub message-accepted : message-refusal t m message hops ≡ 0 → apply-message t m message hops ≡ counts (run t m (message-calls message hops))
   unfolding apply-message
   message-accepted e = rw (eq-eqb _ 0 e)
 
@@ -111,14 +112,22 @@ module _ (t : Settings) (m : Memory) (message hops : List ℕ) where
   unfolding apply-message
   message-refused ne = rw (ne-eqb _ 0 ne)
 
+  -- Accepted and refused together are the message's withdrawn and announced prefixes.
+  pub routes-total : message-refusal t m message hops ≡ 0
+      → let r = apply-message t m message hops .report in r .accepted + r .refused ≡ length (withdrawn-prefixes message) + length (announced-prefixes message)
+  unfolding counts run
+  routes-total e =
+      rw (message-accepted e)
+      (counted-all _ ∙ answers-length _ _ m (message-calls message hops) ∙ calls-total message hops (message-passed t m message hops e))
+
   -- Whatever the message, both counts are below 4,096.
   pub counts-fit : let r = apply-message t m message hops .report in (r .accepted < 2 ^ 12) × (r .refused < 2 ^ 12)
-  unfolding counts refused-message
+  unfolding refused-message
   counts-fit = go (eqb (message-refusal t m message hops) 0) refl
     where
       go : (b : Bool) → eqb (message-refusal t m message hops) 0 ≡ b → let r = apply-message t m message hops .report in (r .accepted < 2 ^ 12) × (r .refused < 2 ^ 12)
       go true e =
           let none = eqb-true _ _ e in
           let few = routes-few message (message-passed t m message hops none .good) in
-          rw (message-accepted none) (omega (arith, routes-total t m message hops), omega (arith, routes-total t m message hops))
+          (omega (arith, routes-total none), omega (arith, routes-total none))
       go false e = rw (message-refused (eqb-false _ _ e)) (omega arith, omega arith)

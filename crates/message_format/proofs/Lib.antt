@@ -3,5 +3,6 @@ pub mod Alone
 pub mod Counting
 pub mod Octets
 pub mod Walks
+pub mod Words
 pub mod Worked
 pub mod Written

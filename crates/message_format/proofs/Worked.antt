@@ -9,10 +9,11 @@ use mathlib.Core.Option.{Option, some, none}
 use lib.Dec.{eqb}
 use lib.ListN.{length, take, getD, set, replicate, length-append, length-replicate}
 use Rattle.rules.specs.Table.{Memory, add, withdraw, lookup, one-if}
+use Rattle.rules.specs.Calls.{act, each, run, accepted-of, refused-of}
 use Rattle.rules.proofs.Worked.{ip, settings, T, empty, figures, finds, told as written, sevens, Case, case, same-words, come-out, computing as rules-computing}
 use Rattle.rules.proofs.Lowest.{lowest-here, lowest-none}
 use Rattle.message_format.specs.Format.{some-starts, starts, byte, from-octets, two-bytes, four-bytes, Prefix, bytes-for, octet, address-at, prefix-from, after-prefix, prefix-fits, prefixes-fit, prefixes, extended, type-of, value-from, value-size, after-attribute, attribute-fits, attributes-fit, next-hops, at-most-one, attributes-good, first-hop, next-hop, all-ones, header-good, withdrawn-to, attributes-from, announced-from, parts-fit, withdrawn-prefixes, announced-prefixes, announces, message-hop, contents-good, well-formed}
-use Rattle.message_format.specs.Reading.{place-in, hop-place, is-hop, hop-or-0, hop-in, message-refusal, counting, each, withdrawing, adding, read-routes, Read, counts, refused-message, apply-message, report-number}
+use Rattle.message_format.specs.Reading.{place-in, hop-place, is-hop, hop-in, message-refusal, withdrawals, announcements, message-calls, Read, counts, refused-message, apply-message, report-number}
 use Rattle.message_format.specs.Writing.{octets, prefix-bytes, withdrawal-size, withdrawal, writing-refusal, write-withdrawal}
 
 -- ---- What the cases are written in
@@ -276,8 +277,8 @@ abbrev back : Prefix → Case
 back q =
     case (told (apply-message T (add T (empty T) (q .prefix) (q .length) 7 .memory) (withdrawal (q .prefix) (q .length)) [])) (leaves 0 1 0 (empty T))
 
-withdrawals : List Case
-withdrawals =
+written-ones : List Case
+written-ones =
     -- M43: 10/8
     case (written (write-withdrawal (ip 10 0 0 0) 8 (sevens 25))) (0 ∷ replicate 16 255 ++ (0 ∷ 25 ∷ 2 ∷ 0 ∷ 2 ∷ 8 ∷ 10 ∷ 0 ∷ 0 ∷ []))
     -- M44: the default, and lengths 1, 9, 17, 25 and 32
@@ -299,7 +300,7 @@ withdrawals =
 
 -- to unfold this is to unfold all that a message computes with but the place of its hop
 unfoldable reading : ℕ
-unfolding byte from-octets two-bytes four-bytes bytes-for octet address-at prefix-from after-prefix prefix-fits some-starts starts prefixes-fit prefixes extended type-of value-from value-size after-attribute attribute-fits attributes-fit next-hops at-most-one attributes-good first-hop next-hop all-ones header-good withdrawn-to attributes-from announced-from parts-fit withdrawn-prefixes announced-prefixes announces message-hop contents-good well-formed is-hop hop-or-0 message-refusal counting each withdrawing adding read-routes counts refused-message apply-message report-number octets prefix-bytes withdrawal-size withdrawal writing-refusal write-withdrawal rules-computing
+unfolding byte from-octets two-bytes four-bytes bytes-for octet address-at prefix-from after-prefix prefix-fits some-starts starts prefixes-fit prefixes extended type-of value-from value-size after-attribute attribute-fits attributes-fit next-hops at-most-one attributes-good first-hop next-hop all-ones header-good withdrawn-to attributes-from announced-from parts-fit withdrawn-prefixes announced-prefixes announces message-hop contents-good well-formed is-hop message-refusal withdrawals announcements message-calls act each run accepted-of refused-of counts refused-message apply-message report-number octets prefix-bytes withdrawal-size withdrawal writing-refusal write-withdrawal rules-computing
 reading = 0
 
 -- and this is all
@@ -307,8 +308,8 @@ unfoldable pub computing : ℕ
 unfolding place-in hop-place hop-in reading
 computing = 0
 
-all-come-out : come-out (parts ++ whole ++ refusals ++ done ++ withdrawals) ≡ true
-unfolding parts whole refusals done withdrawals same-words come-out computing
+all-come-out : come-out (parts ++ whole ++ refusals ++ done ++ written-ones) ≡ true
+unfolding parts whole refusals done written-ones same-words come-out computing
 all-come-out = refl
 
 -- ---- A long list of next hops

@@ -1,20 +1,20 @@
 -- The message that withdraws a route says so, and nothing more; and reading it is the withdrawal.
 use Prim.Native.Nat.{ℕ, _^_, _≤_, _<_}
 use mathlib.Core.Path.{_≡_, ap}
-use mathlib.Core.Bool.{Bool, true, false, cond, not}
+use mathlib.Core.Bool.{Bool, true, false, cond}
 use mathlib.Core.List.{List, [], _∷_}
 use mathlib.Core.Option.{Option, none}
-use native.Mathlib.Nat.{zero-add}
 use native.Mathlib.Omega.{arith}
 use lib.ListN.{length, length-append, length-take}
 use lib.Dec.{eqb}
 use borrow.Author.Tests.{le-leb}
 use Rattle.rules.specs.declared.Settings.{Settings}
 use Rattle.rules.specs.Tools.{within, all, those}
-use Rattle.rules.specs.Table.{Memory, Outcome, prefix, loose, refuse, memory-refusal, withdraw, one-if}
+use Rattle.rules.specs.Table.{Memory, prefix, loose, refuse, memory-refusal}
+use Rattle.rules.specs.Calls.{Withdraw, run}
 use Rattle.rules.proofs.Prefixes.{loose-false}
 use Rattle.message_format.specs.Format.{byte, from-octets, two-bytes, some-starts, starts, Prefix, bytes-for, octet, address-at, prefix-from, after-prefix, prefix-fits, prefixes-fit, prefixes, attributes-fit, next-hops, at-most-one, attributes-good, first-hop, next-hop, all-ones, header-good, withdrawn-to, attributes-from, announced-from, parts-fit, withdrawn-prefixes, announced-prefixes, announces, message-hop, contents-good, well-formed}
-use Rattle.message_format.specs.Reading.{Read, apply-message, message-refusal, read-routes, each, withdrawing, counting, counts, refused-message}
+use Rattle.message_format.specs.Reading.{hop-place, hop-in, message-refusal, withdrawals, announcements, message-calls, counts, refused-message, apply-message}
 use Rattle.message_format.specs.Writing.{octets, prefix-bytes, withdrawal-size, withdrawal}
 use Rattle.message_format.proofs.Octets.{by-bytes}
 
@@ -44,14 +44,6 @@ only p L = record {
   announcing = false;
   hop = none;
 }
-
--- what one single call is told as: it was accepted or refused, and left this memory
-unfoldable pub one-call : Outcome → Read
-one-call u =
-    record {
-      report = record { refusal = 0; accepted = one-if (eqb (u .refusal) 0); refused = one-if (not (eqb (u .refusal) 0)) };
-      memory = u .memory;
-    }
 
 -- The message has the size that it is asked room for.
 pub withdrawal-length : (p L : ℕ) → L ≤ 32 → length (withdrawal p L) ≡ withdrawal-size L
@@ -90,10 +82,14 @@ module _ (p L : ℕ) (short : L ≤ 32) (tight : loose p L ≡ false) (word : p 
   unfolding contents
   withdrawal-no-more = (ap (λ (c : Contents). c .announced) said, (ap (λ (c : Contents). c .announcing) said, ap (λ (c : Contents). c .hop) said))
 
-  module _ (t : Settings) (m : Memory) (hops : List ℕ) where
-    -- Reading it does and leaves what the single withdrawal does, whatever the table and the hops; memory that every call refuses
-    -- is refused with its number.
-    pub reading-gives-it-back : apply-message t m (withdrawal p L) hops
-        ≡ cond (eqb (memory-refusal t m 0) 0) (one-call (withdraw t m p L)) (refused-message (memory-refusal t m 0) m)
-    unfolding apply-message message-refusal read-routes each withdrawing counting counts refuse one-call
-    reading-gives-it-back = simp (withdrawal-good, withdrawal-says, withdrawal-no-more .0, withdrawal-no-more .1 .0, zero-add)
+  -- Its one call is the withdrawal of the route.
+  pub withdrawal-calls : (hops : List ℕ) → message-calls (withdrawal p L) hops ≡ Withdraw p L ∷ []
+  unfolding message-calls withdrawals announcements hop-in hop-place
+  withdrawal-calls hops = simp (withdrawal-says, withdrawal-no-more .1 .1)
+
+  -- Reading it does and leaves what that call does, whatever the table and the hops; memory that every call refuses is refused
+  -- with its number.
+  pub reading-gives-it-back : (t : Settings) (m : Memory) (hops : List ℕ) → apply-message t m (withdrawal p L) hops
+      ≡ cond (eqb (memory-refusal t m 0) 0) (counts (run t m (Withdraw p L ∷ []))) (refused-message (memory-refusal t m 0) m)
+  unfolding apply-message message-refusal refuse
+  reading-gives-it-back t m hops = simp (withdrawal-good, withdrawal-no-more .1 .0, withdrawal-calls)

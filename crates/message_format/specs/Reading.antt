@@ -1,13 +1,14 @@
 -- What a message does to a table.
 use Prim.Native.Nat.{ℕ, _+_, _*_, _^_}
 use mathlib.Core.Bool.{Bool, false, cond, not, _&&_}
-use mathlib.Core.List.{List, [], _∷_}
+use mathlib.Core.List.{List, [], map, _++_}
 use mathlib.Core.Option.{Option, some, none}
 use lib.ListN.{length, getD}
 use lib.Dec.{leb, eqb}
 use Rattle.rules.specs.Tools.{lowest}
 use Rattle.rules.specs.declared.Settings.{Settings}
-use Rattle.rules.specs.Table.{Memory, lent, Outcome, add, withdraw, refuse, memory-refusal, one-if}
+use Rattle.rules.specs.Table.{Memory, lent, refuse, memory-refusal}
+use Rattle.rules.specs.Calls.{Call, Add, Withdraw, Run, run, accepted-of, refused-of}
 use Rattle.message_format.specs.declared.Report.{Report}
 use Rattle.message_format.specs.Format.{Prefix, well-formed, announces, message-hop, withdrawn-prefixes, announced-prefixes}
 
@@ -27,11 +28,6 @@ unfoldable pub is-hop : Option ℕ → Bool
 is-hop none = false
 is-hop (some place) = leb place 65535
 
--- the place; 0 where there is none, and nothing is announced
-unfoldable pub hop-or-0 : Option ℕ → ℕ
-hop-or-0 none = 0
-hop-or-0 (some place) = place
-
 -- the hop of a message's announced routes
 unfoldable pub hop-in : (message hops : List ℕ) → Option ℕ
 hop-in message hops = hop-place hops (message-hop message)
@@ -46,43 +42,19 @@ message-refusal t m message hops =
 
 -- ---- What a message does
 
--- the routes so far: how many were accepted and refused, and the memory as they leave it
-pub record Counted : Type 0 where
-  pub accepted : ℕ
-  pub refused : ℕ
-  pub memory : Memory
+-- a withdrawal of each prefix, in their order
+unfoldable pub withdrawals : List Prefix → List Call
+withdrawals qs = map (λ q. Withdraw (q .prefix) (q .length)) qs
 
--- one single call more
-unfoldable pub counting : Counted → Outcome → Counted
-counting so-far apply-message =
-    record {
-      accepted = so-far .accepted + one-if (eqb (apply-message .refusal) 0);
-      refused = so-far .refused + one-if (not (eqb (apply-message .refusal) 0));
-      memory = apply-message .memory;
-    }
+-- an add of each with the hop; without a hop nothing is announced
+unfoldable pub announcements : (hop : Option ℕ) → List Prefix → List Call
+announcements none qs = []
+announcements (some hop) qs = map (λ q. Add (q .prefix) (q .length) hop) qs
 
--- a single call for each prefix, in their order
-unfoldable pub each : (call : Memory → Prefix → Outcome) → Counted → List Prefix → Counted
-each call so-far [] = so-far
-each call so-far (q ∷ qs) = each call (counting so-far (call (so-far .memory) q)) qs
-
--- its withdrawal
-unfoldable pub withdrawing : Settings → Memory → Prefix → Outcome
-withdrawing t m q = withdraw t m (q .prefix) (q .length)
-
--- its add, with a hop
-unfoldable pub adding : Settings → (hop : ℕ) → Memory → Prefix → Outcome
-adding t hop m q = add t m (q .prefix) (q .length) hop
-
--- nothing counted yet
-abbrev pub none-yet : Memory → Counted
-none-yet m = record { accepted = 0; refused = 0; memory = m }
-
--- the withdrawn routes go first, then the announced ones
-unfoldable pub read-routes : Settings → Memory → (message hops : List ℕ) → Counted
-read-routes t m message hops =
-    each (adding t (hop-or-0 (hop-in message hops))) (each (withdrawing t) (none-yet m) (withdrawn-prefixes message))
-    (announced-prefixes message)
+-- a message is its single calls: the withdrawn routes go first, then the announced ones
+unfoldable pub message-calls : (message hops : List ℕ) → List Call
+message-calls message hops =
+    withdrawals (withdrawn-prefixes message) ++ announcements (hop-in message hops) (announced-prefixes message)
 
 -- what a message gives back and leaves
 pub record Read : Type 0 where
@@ -93,12 +65,12 @@ pub record Read : Type 0 where
 abbrev pub reported : Report → (counters slots : List ℕ) → Read
 reported report counters slots = record { report = report; memory = lent counters slots }
 
--- the report of routes that were counted
-unfoldable pub counts : Counted → Read
-counts routes =
+-- how many of its calls were accepted, how many were refused, and what the last one left
+unfoldable pub counts : Run Memory → Read
+counts made =
     record {
-      report = record { refusal = 0; accepted = routes .accepted; refused = routes .refused };
-      memory = routes .memory;
+      report = record { refusal = 0; accepted = accepted-of (made .answers); refused = refused-of (made .answers) };
+      memory = made .last;
     }
 
 -- a refused message leaves the memory as it was
@@ -109,7 +81,7 @@ refused-message refusal m = record { report = record { refusal = refusal; accept
 unfoldable pub apply-message : Settings → Memory → (message hops : List ℕ) → Read
 apply-message t m message hops =
     let refusal = message-refusal t m message hops in
-    cond (eqb refusal 0) (counts (read-routes t m message hops)) (refused-message refusal m)
+    cond (eqb refusal 0) (counts (run t m (message-calls message hops))) (refused-message refusal m)
 
 -- ---- The numbers as they cross to C
 

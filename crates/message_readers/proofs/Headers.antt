@@ -1,7 +1,7 @@
 -- What a message's first checks tell.
 use Prim.Native.Nat.{ℕ, zero, suc, _+_, _≤_, _<_}
-use mathlib.Core.Path.{_≡_, refl, sym, subst}
-use mathlib.Core.Bool.{Bool, true, false, cond, _&&_, and-false}
+use mathlib.Core.Path.{_≡_, refl, sym, _∙_}
+use mathlib.Core.Bool.{Bool, true, false, cond, not, _&&_, and-false}
 use mathlib.Core.List.{List}
 use mathlib.Core.Logic.{_⊎_, inl, inr}
 use native.Mathlib.Nat.{eq-or-lt-of-le, le-of-suc-le-suc}
@@ -11,14 +11,16 @@ use lib.Dec.{leb, eqb}
 use lib.ListN.{length}
 use borrow.Author.Tests.{leb-true, le-leb, lt-leb, eq-eqb, ne-eqb}
 use Rattle.rules.specs.Tools.{within}
+use Rattle.rules.specs.Table.{refuse}
 use Rattle.rules.proofs.Members.{both}
-use Rattle.message_format.specs.Format.{byte, two-bytes, prefixes-fit, all-ones, header-good, withdrawn-from, withdrawn-to, attributes-from, announced-from, parts-fit, message-hop, contents-good, well-formed}
+use Rattle.message_format.specs.Format.{byte, two-bytes, prefixes-fit, all-ones, header-good, withdrawn-from, withdrawn-to, attributes-from, announced-from, attributes-good, parts-fit, message-hop, contents-good, well-formed}
+use Rattle.message_format.proofs.Counting.{refused-so}
 use Rattle.message_readers.specs.declared.NextHop.{NextHop}
 use Rattle.message_readers.specs.declared.HopRead.the-variants as hops
 use Rattle.message_readers.specs.declared.Message.{Message}
 use Rattle.message_readers.specs.declared.Message.the-variants.{Good, Fault}
-use Rattle.message_readers.specs.Readings.{given, hop-read, message-read}
-use Rattle.message_readers.proofs.Parts.{hop-told}
+use Rattle.message_readers.specs.Readings.{given, hop-read, attributes-number, message-read, message-number}
+use Rattle.message_readers.proofs.Parts.{attributes-refused, hop-told}
 
 module _ (bytes : List ℕ) where
   pub ones-on : (i : ℕ) → all-ones bytes i ≡ true → byte bytes i ≡ 255 → all-ones bytes (i + 1) ≡ true
@@ -86,9 +88,11 @@ module _ (message : List ℕ) where
         withdrawn-unfit f = rw (header, le-leb _ _ withdrawn, le-leb _ _ attributes, f)
 
         module _ (fit : prefixes-fit message withdrawn-from (withdrawn-to message) ≡ true) where
-          pub attributes-bad : hop-read message (attributes-from message) (announced-from message) ≡ hops.Fault → message-read message ≡ Fault
+          pub attributes-bad : attributes-number (hop-read message (attributes-from message) (announced-from message)) ≡ 12 → message-read message ≡ Fault
           unfolding message-read well-formed parts-fit contents-good
-          attributes-bad f = rw (header, le-leb _ _ withdrawn, le-leb _ _ attributes, fit, hop-told message (attributes-from message) (announced-from message) f)
+          attributes-bad twelve =
+              let bad : attributes-good message (attributes-from message) (announced-from message) ≡ false = refused-so _ 11 (sym (attributes-refused message _ _) ∙ twelve) in
+              rw (header, le-leb _ _ withdrawn, le-leb _ _ attributes, fit, bad)
 
           pub the-rest : {next-hop : NextHop} → hop-read message (attributes-from message) (announced-from message) ≡ hops.Good next-hop
               → message-read message ≡ cond (prefixes-fit message (announced-from message) (length message)) (Good (withdrawn-to message) (announced-from message) next-hop) Fault
@@ -97,20 +101,29 @@ module _ (message : List ℕ) where
               let told = hop-told message (attributes-from message) (announced-from message) good in
               rw (header, le-leb _ _ withdrawn, le-leb _ _ attributes, fit, told .0, told .1)
 
--- ---- What an answer tells of a message
+-- ---- What the answer means, and what it tells
 
-abbrev pub MessageTold : (bytes : List ℕ) → Message → Type 0
-MessageTold bytes (Good withdrawn announced next) =
-    (well-formed bytes ≡ true) × (withdrawn ≡ withdrawn-to bytes) × (announced ≡ announced-from bytes) × (given (message-hop bytes) ≡ next)
-MessageTold bytes Fault = well-formed bytes ≡ false
-
-pub message-told : (bytes : List ℕ) {answer : Message} → message-read bytes ≡ answer → MessageTold bytes answer
-unfolding message-read
-message-told bytes told = subst (MessageTold bytes) told (go (well-formed bytes) refl)
+-- Number 12 is meant exactly where the message is not well-formed.
+pub read-refused : (bytes : List ℕ) → message-number (message-read bytes) ≡ refuse (not (well-formed bytes)) 12 0
+unfolding message-read message-number refuse
+read-refused bytes = go (well-formed bytes)
   where
-    read : Bool → Message
-    read b = cond b (Good (withdrawn-to bytes) (announced-from bytes) (given (message-hop bytes))) Fault
+    go : (good : Bool) → message-number (cond good (Good (withdrawn-to bytes) (announced-from bytes) (given (message-hop bytes))) Fault) ≡ cond (not good) 12 0
+    go true = refl
+    go false = refl
 
-    go : (b : Bool) → well-formed bytes ≡ b → MessageTold bytes (read (well-formed bytes))
-    go true e = subst (λ b. MessageTold bytes (read b)) (sym e) (e, refl, refl, refl)
-    go false e = subst (λ b. MessageTold bytes (read b)) (sym e) e
+-- a message that was read: where its parts lie, and its NEXT_HOP
+pub record MessageTold (bytes : List ℕ) (withdrawn announced : ℕ) (next : NextHop) : Type 0 where
+  pub good : well-formed bytes ≡ true
+  pub withdrawn-ends : withdrawn ≡ withdrawn-to bytes
+  pub announced-starts : announced ≡ announced-from bytes
+  pub hop : given (message-hop bytes) ≡ next
+
+pub message-told : (bytes : List ℕ) {withdrawn announced : ℕ} {next : NextHop} → message-read bytes ≡ Good withdrawn announced next → MessageTold bytes withdrawn announced next
+unfolding message-read
+message-told bytes {withdrawn} {announced} {next} told = go (well-formed bytes) refl told
+  where
+    go : (good : Bool) → well-formed bytes ≡ good → cond good (Good (withdrawn-to bytes) (announced-from bytes) (given (message-hop bytes))) Fault ≡ Good withdrawn announced next
+        → MessageTold bytes withdrawn announced next
+    go true e is = record { good = e; withdrawn-ends = cc; announced-starts = cc; hop = cc }
+    go false e is = let never : _≡_ {A = ℕ} 0 1 = cc in absurd (omega arith)

@@ -1,11 +1,12 @@
 -- The walks over a part, while they go on: what the whole part gives is what is left of it gives.
 use Prim.Native.Nat.{ℕ, _-_, _≤_, _<_}
-use mathlib.Core.Path.{_≡_, refl, sym, ap, subst, _∙_}
-use mathlib.Core.Bool.{Bool, true, false, cond, _&&_, and-true, and-false}
+use mathlib.Core.Path.{_≡_, refl, sym, ap, _∙_}
+use mathlib.Core.Bool.{Bool, true, false, cond, not, _&&_, and-true, and-false}
 use mathlib.Core.List.{List, [], _∷_}
 use lib.Dec.{eqb}
 use native.Mathlib.Omega.{arith}
 use borrow.Author.Tests.{eq-eqb, ne-eqb}
+use Rattle.rules.specs.Table.{refuse}
 use Rattle.message_format.specs.Format.{prefix-fits, prefixes-fit, four-bytes, type-of, value-from, value-size, after-attribute, attribute-fits, attributes-fit, next-hops, at-most-one, attributes-good, first-hop, next-hop}
 use Rattle.message_format.proofs.Walks.{with-hop, after-prefix-later, after-attribute-later, fit-none, fit-next, attributes-none, attributes-next, hops-none, hops-next}
 use Rattle.message_cursors.specs.declared.Prefixes.{Prefixes}
@@ -15,7 +16,7 @@ use Rattle.message_readers.specs.declared.NextHop.{NextHop}
 use Rattle.message_readers.specs.declared.NextHop.the-variants.{Missing, Given}
 use Rattle.message_readers.specs.declared.HopRead.{HopRead}
 use Rattle.message_readers.specs.declared.HopRead.the-variants.{Good, Fault}
-use Rattle.message_readers.specs.Readings.{given, hop-read}
+use Rattle.message_readers.specs.Readings.{given, hop-read, attributes-number}
 
 -- ---- Prefixes
 
@@ -144,15 +145,23 @@ module _ (bytes : List ℕ) (from to : ℕ) {rest : Attributes} {found : NextHop
             (first bytes (rest .at) (rest .end) (m .more) (m .fits) (sym (m .type) ∙ is-hop) (sym (m .sized) ∙ four));
       }
 
--- what the answer tells of the attributes
-abbrev pub HopTold : (bytes : List ℕ) (at end : ℕ) → HopRead → Type 0
-HopTold bytes at end (Good next) = (attributes-good bytes at end ≡ true) × (given (next-hop bytes at end) ≡ next)
-HopTold bytes at end Fault = attributes-good bytes at end ≡ false
+-- ---- What the answer means, and what it tells
 
-pub hop-told : (bytes : List ℕ) (at end : ℕ) {answer : HopRead} → hop-read bytes at end ≡ answer → HopTold bytes at end answer
-unfolding hop-read
-hop-told bytes at end told = subst (HopTold bytes at end) told (go (attributes-good bytes at end) refl)
-  where
-    go : (b : Bool) → attributes-good bytes at end ≡ b → HopTold bytes at end (cond (attributes-good bytes at end) (Good (given (next-hop bytes at end))) Fault)
-    go true e = subst (λ (b : Bool). HopTold bytes at end (cond b (Good (given (next-hop bytes at end))) Fault)) (sym e) (e, refl)
-    go false e = subst (λ (b : Bool). HopTold bytes at end (cond b (Good (given (next-hop bytes at end))) Fault)) (sym e) e
+module _ (bytes : List ℕ) (at end : ℕ) where
+  -- Number 12 is meant exactly where the attributes are not well-formed.
+  pub attributes-refused : attributes-number (hop-read bytes at end) ≡ refuse (not (attributes-good bytes at end)) 12 0
+  unfolding hop-read attributes-number refuse
+  attributes-refused = go (attributes-good bytes at end)
+    where
+      go : (good : Bool) → attributes-number (cond good (Good (given (next-hop bytes at end))) Fault) ≡ cond (not good) 12 0
+      go true = refl
+      go false = refl
+
+  pub hop-told : {next : NextHop} → hop-read bytes at end ≡ Good next → (attributes-good bytes at end ≡ true) × (given (next-hop bytes at end) ≡ next)
+  unfolding hop-read
+  hop-told {next} told = go (attributes-good bytes at end) refl told
+    where
+      go : (good : Bool) → attributes-good bytes at end ≡ good → cond good (Good (given (next-hop bytes at end))) Fault ≡ Good next
+          → (attributes-good bytes at end ≡ true) × (given (next-hop bytes at end) ≡ next)
+      go true e is = (e, cc)
+      go false e is = let never : _≡_ {A = ℕ} 0 1 = cc in absurd (omega arith)

@@ -8,7 +8,7 @@ use denote.Ref.{now}
 use borrow.Author.Needs.{needs}
 use borrow.Author.Tests.{not-true, not-false}
 use Rattle.message_format.specs.Format.{prefixes-fit, header-good, withdrawn-from, withdrawn-to, attributes-from, announced-from}
-use Rattle.message_readers.specs.Readings.{hop-read}
+use Rattle.message_readers.specs.Readings.{hop-read, attributes-number}
 use Rattle.message_readers.proofs.Headers.{header-size, bad-header, withdrawn-over, attributes-over, withdrawn-unfit, attributes-bad, the-rest}
 use Rattle.message_readers.proofs.read_message.Statement.{statement}
 use Rattle.message_readers.proofs.read_message.Tie as tie
@@ -73,11 +73,12 @@ returns-4 c =
     (sym (rw (ends (left .before)) at (c .before .prefixes-fit .ensures)) ∙ not-true _ (c .if4 .taken)))
 
 returns-5 : tie.Need-returns-5
+unfolding attributes-number
 returns-5 c =
     let hop = c .before .before in
     let last = hop .before .before .before in
     let left = last .before .before in
-    sym (attributes-bad _ (good (left .before .before)) (leaves left) (lies last) (fits (hop .before)) (read hop ∙ c .enum-told .given .1))
+    sym (attributes-bad _ (good (left .before .before)) (leaves left) (lies last) (fits (hop .before)) (ap attributes-number (read hop ∙ c .enum-told .given .1)))
 
 returns-6 : tie.Need-returns-6
 returns-6 c =
