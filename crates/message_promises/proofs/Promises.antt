@@ -1,129 +1,119 @@
--- The demands after a history with messages in it. A message is its single calls (proofs/Routes.antt), so a table that heard
--- messages is one that served calls (proofs/Runs.antt), and each theorem on lookups and updates is its namesake in
--- crates/promises/proofs/Calls.antt; those on a message follow from what its calls are given.
-use Prim.Native.Nat.{ℕ, _*_, _^_, _≤_, _<_}
-use mathlib.Core.Path.{_≡_, refl, sym, _∙_}
-use mathlib.Core.Bool.{true, false, not}
-use mathlib.Core.List.{List, []}
-use mathlib.Core.Logic.{_↔_, _≢_}
-use lib.Dec.{eqb}
+-- What is promised of a message after any history. A message is its single calls (proofs/Routes.antt), so it only makes the
+-- history longer, and all that crates/promises says of lookups and updates holds after it as before. What is said here is what
+-- the message itself is given, by its bytes, the list of next hops and the stored routes.
+use Prim.Native.Nat.{ℕ}
+use mathlib.Core.Path.{_≡_, refl, sym, ap, _∙_}
+use mathlib.Core.Bool.{true, false}
+use mathlib.Core.List.{List, [], _++_, append-cancel-left}
+use mathlib.Core.Logic.{_↔_}
 use lib.Pow.{areBytes}
 use Rattle.rules.specs.declared.Settings.{Settings}
-use Rattle.rules.specs.declared.Answer.{Answer}
-use Rattle.rules.specs.Tools.{all}
-use Rattle.rules.specs.Table.{bucket, lent, refuse, match-vector, lookup}
+use Rattle.rules.specs.Table.{Memory, refuse, match-vector}
+use Rattle.rules.specs.Calls.{Call, Clear, act, run, accepted-of, refused-of}
 use Rattle.rules.proofs.Refusals.{memory-passing, passed}
-use Rattle.message_format.specs.declared.Report.{Report}
-use Rattle.promises.specs.History.{Route, Call, Add, Withdraw, word-sized, about}
-use Rattle.promises.specs.Demands.{Stored, number, Reordered, matches, Longest, NoMatch, Finds, SaysNone, number-given, probes-down-to, lengths-in-use, adds, filter-sum}
-use Rattle.promises.specs.Calls.{Made, Ensured, calls-of, numbers-of, on-paper}
-use Rattle.promises.proofs.Calls as promise
-use Rattle.message_promises.specs.Heard.{message-calls, made-by, made-on-paper, how-many, MessageEnsured, malformed, no-hop, HeardServed}
+use Rattle.message_format.specs.Reading.{Read, apply-message}
+use Rattle.promises.specs.History.{Route, stored, SingleCalls, History, Ran}
+use Rattle.promises.specs.Demands.{Reordered, paper, adds}
+use Rattle.promises.proofs.Histories.{routes-on-paper, one-made, made-append, history-of, history-more, seat-made, more-answers-on-paper, more-routes-on-paper}
+use Rattle.promises.proofs.Promises.{vector-accepted, same-numbers}
+use Rattle.message_promises.specs.Heard.{heard-calls, malformed, no-hop, Heard, OneCall, OneMessage}
 use Rattle.message_promises.proofs.Conditions.{message-checks}
 use Rattle.message_promises.proofs.Refused.{its-refusal}
-use Rattle.message_promises.proofs.Routes.{accepted-counted, refused-counted}
-use Rattle.message_promises.proofs.Runs.{message-words, served, made-so}
+use Rattle.message_promises.proofs.Routes.{message-single, accepted-counted, refused-counted}
 
-module _ {t : Settings} {log : List Made} {counters slots : List ℕ} (table : HeardServed t log counters slots) where
-  -- the routes stored, by the calls and the numbers of the log
+-- ---- One message more
+
+module _ {t : Settings} {calls : List Call} {answers : List ℕ} {m : Memory} (history : History t calls answers m) (message hops : List ℕ) where
+  -- what it is given back and leaves,
+  abbrev applied : Read
+  applied = apply-message t m message hops
+
+  -- its single calls, none where it is refused,
+  abbrev heard : List Call
+  heard = heard-calls message hops (applied .report .refusal)
+
+  -- and the routes stored before it
   abbrev routes : List Route
-  routes = on-paper [] log
+  routes = stored calls answers
 
-  -- ---- What lookup gives back
+  -- It is refused with 12 or 13 alone, by the message and the list of next hops.
+  pub message-given : applied .report .refusal ≡ refuse (malformed message) 12 (refuse (no-hop message hops) 13 0)
+  unfolding match-vector
+  message-given = its-refusal t m message hops ∙ message-checks t m message hops
+      ∙ memory-passing t m .accepts (vector-accepted history 0) _
 
-  module _ (address : ℕ) (word : address < 2 ^ 32) (answer : Answer) (given : answer ≡ lookup t (lent counters slots) address) where
-    -- The answer has hop and length of the longest stored route that matches.
-    pub finds-longest : (r : Route) → Longest address routes r → Finds answer r
-    finds-longest = promise.finds-longest (served table) address word answer given
+  -- It is accepted exactly if it is well-formed and what it announces has a hop.
+  pub message-accepted : (applied .report .refusal ≡ 0) ↔ ((malformed message ≡ false) × (no-hop message hops ≡ false))
+  unfolding refuse
+  message-accepted = (
+    λ good. let form = passed (malformed message) 11 _ (sym message-given ∙ good) in (form .0, passed (no-hop message hops) 12 0 (form .1) .0),
+    λ good. message-given ∙ rw (good .0, good .1),
+  )
 
-    -- It has the default's where nothing else matches.
-    pub finds-default : (r : Route) → Stored r routes → r .length ≡ 0
-        → ((q : Route) → Stored q routes → matches address q ≡ true → q .length ≡ 0) → Finds answer r
-    finds-default = promise.finds-default (served table) address word answer given
+  module _ (bytes : areBytes message ≡ true) where
+    -- The history goes on with its single calls.
+    pub message-history : History t (calls ++ heard) (answers ++ run t m heard .answers) (applied .memory)
+    message-history = history-more history (message-single t m message hops bytes)
 
-    -- It says none exactly if no stored route matches, and then nothing else.
-    pub none-exactly : (answer .found ≡ false) ↔ NoMatch address routes
-    none-exactly = promise.none-exactly (served table) address word answer given
+    -- Each of its routes is given the number of the first listed condition that is so of the routes stored by then,
+    pub message-numbers : run t m heard .answers ≡ paper t routes heard .answers
+    message-numbers = more-answers-on-paper history (message-single t m message hops bytes)
 
-    pub says-none : NoMatch address routes → SaysNone answer
-    says-none = promise.says-none (served table) address word answer given
+    -- and its counts are how many of these numbers are 0, and how many are not.
+    pub message-accepts : applied .report .accepted ≡ accepted-of (paper t routes heard .answers)
+    message-accepts = accepted-counted t m message hops ∙ ap accepted-of message-numbers
 
-    -- Its probes are the covered lengths down to its own, at most as many as lengths are in use.
-    pub probes-counted : answer .probes ≡ probes-down-to t routes address (answer .length)
-    probes-counted = promise.probes-counted (served table) address word answer given
+    pub message-refuses : applied .report .refused ≡ refused-of (paper t routes heard .answers)
+    message-refuses = refused-counted t m message hops ∙ ap refused-of message-numbers
 
-    pub probes-bounded : answer .probes ≤ lengths-in-use routes
-    probes-bounded = promise.probes-bounded (served table) address word answer given
+    -- What is stored after it follows from what was stored before it.
+    pub message-stores : stored (calls ++ heard) (answers ++ run t m heard .answers) ≡ paper t routes heard .last
+    message-stores = more-routes-on-paper history (message-single t m message hops bytes)
 
-  -- ---- What one call more gives back
+-- ---- Demand 3, of a table newly cleared under these settings, to which the stored routes are added, in any order
 
-  module _ (call : Call) (word : word-sized call ≡ true) (r : ℕ) (counters' slots' : List ℕ) (ensured : Ensured t call counters slots r counters' slots') where
-    -- The number is that of the first listed condition that is so of the stored routes, 0 if none is, and never 10.
-    pub numbers-given : r ≡ number-given t routes call
-    numbers-given = promise.numbers-given (served table) call word r counters' slots' ensured
+-- Whatever calls and messages both were given since, by their single calls, the next message is given the same report by both.
+module _ {t : Settings} {calls : List Call} {answers : List ℕ} {m : Memory} (history : History t calls answers m)
+    {order : List Route} (same : Reordered (stored calls answers) order) {new-answers : List ℕ} {new-m : Memory} (anew : History t (adds order) new-answers new-m)
+    {more : List Call} {more-answers more-new-answers : List ℕ} {last new-last : Memory}
+    (made : SingleCalls t m more more-answers last) (made-anew : SingleCalls t new-m more more-new-answers new-last)
+    (message hops : List ℕ) (bytes : areBytes message ≡ true) where
+  abbrev heard-by-both : List Call
+  heard-by-both = heard-calls message hops (apply-message t last message hops .report .refusal)
 
-    pub never-ten : r ≢ 10
-    never-ten = promise.never-ten (served table) call word r counters' slots' ensured
+  same-refusal : apply-message t new-last message hops .report .refusal ≡ apply-message t last message hops .report .refusal
+  same-refusal = message-given (history-more anew made-anew) message hops ∙ sym (message-given (history-more history made) message hops)
 
-  -- A freed place can be used again: what a withdrawal took out, an add puts back with any valid hop.
-  pub freed-again : (p L hop : ℕ) → p < 2 ^ 32 → hop ≤ 65535 → (counters' slots' : List ℕ) → Ensured t (Withdraw p L) counters slots 0 counters' slots'
-      → (r : ℕ) (counters″ slots″ : List ℕ) → Ensured t (Add p L hop) counters' slots' r counters″ slots″ → r ≡ 0
-  freed-again = promise.freed-again (served table)
+  -- The message is the same single calls on both: so it goes on, with it among what both were given.
+  pub both-heard : SingleCalls t m (more ++ heard-by-both) (more-answers ++ run t last heard-by-both .answers) (apply-message t last message hops .memory)
+      × SingleCalls t new-m (more ++ heard-by-both) (more-new-answers ++ run t new-last heard-by-both .answers) (apply-message t new-last message hops .memory)
+  both-heard = (
+    made-append made (message-single t last message hops bytes),
+    made-append made-anew (rw same-refusal at (message-single t new-last message hops bytes)),
+  )
 
-  -- Nor does an add of any other prefix of that length and bucket then get 8.
-  pub freed-for-others : (p L q hop : ℕ) → p < 2 ^ 32 → q < 2 ^ 32 → bucket t q ≡ bucket t p → (counters' slots' : List ℕ) → Ensured t (Withdraw p L) counters slots 0 counters' slots'
-      → (r : ℕ) (counters″ slots″ : List ℕ) → Ensured t (Add q L hop) counters' slots' r counters″ slots″ → r ≢ 8
-  freed-for-others = promise.freed-for-others (served table)
+  same-given : run t new-last heard-by-both .answers ≡ run t last heard-by-both .answers
+  same-given = append-cancel-left more-new-answers _ _
+      (same-numbers history same anew (both-heard .0) (both-heard .1) ∙ rw (same-numbers history same anew made made-anew))
 
-  -- ---- What one message more gives back
+  pub same-reports : apply-message t new-last message hops .report ≡ apply-message t last message hops .report
+  same-reports =
+      let accepted = rw (same-refusal, same-given, ← accepted-counted t last message hops) at (accepted-counted t new-last message hops) in
+      let refused = rw (same-refusal, same-given, ← refused-counted t last message hops) at (refused-counted t new-last message hops) in
+      λ i. record { refusal = same-refusal i; accepted = accepted i; refused = refused i }
 
-  module _ (message hops : List ℕ) (report : Report) (counters' slots' : List ℕ) (ensured : MessageEnsured t counters slots message hops report counters' slots') where
-    -- It is refused with 12 or 13 alone, by the message and the list of next hops.
-    pub message-given : report .refusal ≡ refuse (malformed message) 12 (refuse (no-hop message hops) 13 0)
-    unfolding match-vector
-    message-given = its-refusal t counters slots message hops report counters' slots' ensured ∙ message-checks t (lent counters slots) message hops
-        ∙ memory-passing t (lent counters slots) .accepts (promise.vector-accepted (served table) 0 _ refl) _
+-- ---- A whole run
 
-    -- It is accepted exactly if it is well-formed and what it announces has a hop.
-    pub message-accepted : (report .refusal ≡ 0) ↔ ((malformed message ≡ false) × (no-hop message hops ≡ false))
-    unfolding refuse
-    message-accepted = (
-      λ good. let form = passed (malformed message) 11 _ (sym message-given ∙ good) in (form .0, passed (no-hop message hops) 12 0 (form .1) .0),
-      λ good. message-given ∙ rw (good .0, good .1),
-    )
+heard-single : {t : Settings} (m : Memory) (calls : List Call) (answers : List ℕ) (m' : Memory) → Heard t m calls answers m' → SingleCalls t m calls answers m'
+heard-single m calls answers m' (OneCall call word) = one-made word refl
+heard-single {t} m calls answers m' (OneMessage message hops bytes) = message-single t m message hops bytes
 
-    module _ (bytes : areBytes message ≡ true) where
-      -- Each of its routes is given the number of the first listed condition that is so of the routes stored by then,
-      pub message-noted : made-by t (lent counters slots) (message-calls message hops) ≡ made-on-paper t routes (message-calls message hops)
-      message-noted = made-so (served table) (message-calls message hops) (message-words message hops bytes)
+module _ {t : Settings} {calls : List Call} {answers : List ℕ} {m : Memory} (before : Memory) (accepted : act t Clear before .refusal ≡ 0)
+    (ran : Ran (Heard t) (act t Clear before .memory) calls answers m) where
+  -- Single calls and messages, in any order, after an accepted clear, are a history.
+  pub heard-history : History t calls answers m
+  heard-history = history-of before accepted (seat-made heard-single ran)
 
-      -- and where it is accepted its counts are those of these numbers that are 0, and that are not.
-      pub message-accepts : report .refusal ≡ 0 → report .accepted ≡ how-many (λ n. eqb n 0) (numbers-of (made-on-paper t routes (message-calls message hops)))
-      message-accepts = rw (← message-noted) (accepted-counted t counters slots message hops report counters' slots' ensured)
-
-      pub message-refuses : report .refusal ≡ 0 → report .refused ≡ how-many (λ n. not (eqb n 0)) (numbers-of (made-on-paper t routes (message-calls message hops)))
-      message-refuses = rw (← message-noted) (refused-counted t counters slots message hops report counters' slots' ensured)
-
-  -- ---- What is stored, and the counters
-
-  -- No two stored routes have one prefix and length.
-  pub stored-once : (p L : ℕ) → number (about p L) routes ≤ 1
-  stored-once = promise.stored-once (served table)
-
-  -- A length's counters together are K for each route stored with it.
-  pub counters-sum : (L : ℕ) → 1 ≤ L → L ≤ 32 → filter-sum t counters L ≡ t .k * number (λ r. eqb (r .length) L) routes
-  counters-sum = promise.counters-sum (served table)
-
--- ---- A table newly cleared, to which the stored routes are added, in any order
-
-module _ {t : Settings} {log again : List Made} {counters slots new-counters new-slots : List ℕ}
-    (table : HeardServed t log counters slots) (anew : HeardServed t again new-counters new-slots)
-    (order : List Route) (same : Reordered (on-paper [] log) order) (added : calls-of again ≡ adds order) where
-  -- No add is refused,
-  pub all-accepted : all (λ n. eqb n 0) (numbers-of again) ≡ true
-  all-accepted = promise.all-accepted (served table) (served anew) order same added
-
-  -- and then both tables give the same answers and counts.
-  pub same-lookups : (address : ℕ) → address < 2 ^ 32 → (answer new-answer : Answer)
-      → answer ≡ lookup t (lent counters slots) address → new-answer ≡ lookup t (lent new-counters new-slots) address → new-answer ≡ answer
-  same-lookups = promise.same-lookups (served table) (served anew) order same added
+  -- What they store follows from them alone: from the calls, and from the routes of each message that was not refused.
+  pub heard-stores : stored calls answers ≡ paper t [] calls .last
+  heard-stores = routes-on-paper heard-history

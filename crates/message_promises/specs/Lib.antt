@@ -1,4 +1,2 @@
--- A message as the single calls that it stands for, what it can be refused for, runs in which messages are heard, and what
--- a C program sees of all this.
+-- A message as part of a history, and what a message and a written withdrawal can be refused for.
 pub mod Heard
-pub mod FromC
