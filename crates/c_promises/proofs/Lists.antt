@@ -1,26 +1,26 @@
 -- gateway_lookup_list: over addresses and results in bytes, the number that comes back and the bytes that are left. What is
 -- read of result i is the lookup of address i, so that each promise of a lookup holds of each result.
-use Prim.Native.Nat.{ℕ, zero, suc, _+_, _*_, _/_, _%_, _^_, _≤_, _<_}
+use Prim.Native.Nat.{ℕ, _+_, _*_, _/_, _%_, _^_, _≤_, _<_}
 use mathlib.Core.Path.{_≡_, refl, sym, ap, _∙_}
 use mathlib.Core.Bool.{Bool, true, false, not, _||_}
 use mathlib.Core.List.{List, [], _∷_, map}
 use mathlib.Core.Logic.{_↔_, _≢_}
 use native.Mathlib.Decide.{ℕ-discrete}
 use native.Mathlib.Omega.{arith}
-use lib.Dec.{ltb, eqb}
+use lib.Dec.{eqb}
 use lib.ListN.{length, getD, drop}
 use lib.Pow.{areBytes}
 use lib.Seq.{getD-take, getD-drop}
-use borrow.Author.Tests.{ltb-true, eqb-true, eq-eqb, ne-eqb, not-false}
+use borrow.Author.Tests.{eqb-true, eq-eqb, ne-eqb, not-false}
 use Rattle.rules.specs.declared.Settings.{Settings}
 use Rattle.rules.specs.Tools.{all}
 use Rattle.rules.specs.Table.{Memory, lent, words, refuse, fourfold, memory-refusal, lookup, match-vector, one-if, answer-words, list-words, list-refusal, listed, bytes-of, c-list-refusal, c-lookup-list}
 use Rattle.rules.specs.Calls.{Call}
 use Rattle.rules.proofs.Lists.{list-size, list-place, list-same, list-passed}
-use Rattle.rules.proofs.Members.{both}
 use Rattle.rules.proofs.Refusals.{passed, Fitted, fits, memory-passing}
 use Rattle.c_words.proofs.Bytes.{four-each}
 use Rattle.c_words.proofs.Words.{count-whole, word-is}
+use Rattle.message_format.proofs.Words.{byte-at}
 use Rattle.gateway.specs.Crossing.{ListCrossed}
 use Rattle.promises.specs.History.{History}
 use Rattle.promises.specs.Demands.{Condition, memory-conditions, NoneMet, FirstMet}
@@ -95,11 +95,6 @@ module _ (t : Settings) (counters slots addresses results : List ℕ) (answer : 
       go (no bad) = ap length (list-refused bad)
 
 -- ---- Result i
-
-pub byte-at : (bytes : List ℕ) → areBytes bytes ≡ true → (i : ℕ) → getD bytes i 0 < 256
-byte-at [] small i = omega arith
-byte-at (b ∷ bytes) small zero = ltb-true b 256 (both _ _ small .0)
-byte-at (b ∷ bytes) small (suc i) = byte-at bytes (both (ltb b 256) _ small .1) i
 
 word-small : (bytes : List ℕ) → areBytes bytes ≡ true → (from : ℕ) → word-at bytes from < 2 ^ 32
 unfolding word-at

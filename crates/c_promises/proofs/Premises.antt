@@ -1,30 +1,34 @@
 -- Small worked programs meet the premises, under settings T and under filters of unequal size: what the calls give back is
 -- computed, and handed to the promises.
 use Prim.Native.Nat.{ℕ, _+_, _*_, _^_}
-use mathlib.Core.Path.{_≡_, refl, ap, _∙_}
+use mathlib.Core.Path.{_≡_, refl, sym, ap, _∙_}
 use mathlib.Core.Bool.{true}
 use mathlib.Core.List.{List, [], _∷_, _++_}
 use native.Mathlib.Omega.{arith}
 use lib.Dec.{lit<}
 use lib.ListN.{replicate}
 use Rattle.rules.specs.declared.Settings.{Settings}
-use Rattle.rules.specs.Table.{Memory, Listed, c-lookup, bytes-of, c-lookup-list}
+use Rattle.rules.specs.Table.{Memory, lookup, Listed, c-lookup, bytes-of, c-lookup-list}
 use Rattle.rules.specs.Calls.{Call, Clear, Add, Withdraw, word-sized, all-word-sized, act, run, each}
 use Rattle.rules.proofs.Worked.{ip, T}
 use Rattle.rules.proofs.Members.{both}
+use Rattle.message_format.specs.Reading.{apply-message, report-number}
+use Rattle.message_format.proofs.Worked.{computing as reading}
 use Rattle.promises.specs.History.{Route, stored, History, Ran, Stop, Then}
 use Rattle.promises.specs.Demands.{Finds, SaysNone, Reordered, Nothing, First, Longest, NoMatch, probes-down-to, adds}
 use Rattle.promises.proofs.Agree.{sevens, showing}
 use Rattle.promises.proofs.Paper.{route}
 use Rattle.promises.proofs.Matches.{right}
+use Rattle.promises.proofs.Premises.{U}
 use Rattle.promises.proofs.Histories.{made}
 use Rattle.promises.proofs.Promises.{finds-longest, says-none}
-use Rattle.c_promises.specs.Numbers.{gateway-refusal, word-at, list-address, read-answer, read-result}
-use Rattle.c_promises.specs.Calls.{Updated, LookedUp, ListedUp, Did, DidUpdate, DidList}
-use Rattle.c_promises.proofs.Unpacking.{answer-read}
+use Rattle.message_promises.specs.Heard.{heard-calls}
+use Rattle.c_promises.specs.Numbers.{gateway-refusal, word-at, list-address, read-answer, read-report, read-result}
+use Rattle.c_promises.specs.Calls.{Updated, LookedUp, ListedUp, Sent, Did, DidUpdate, DidList, DidMessage}
+use Rattle.c_promises.proofs.Unpacking.{answer-read, message-read}
 use Rattle.c_promises.proofs.Lists.{list-accepted, result-read}
 use Rattle.c_promises.proofs.Seat.{c-history}
-use Rattle.c_promises.proofs.Promises.{number-found, same-lookup-numbers}
+use Rattle.c_promises.proofs.Promises.{number-found, same-lookup-numbers, same-message-numbers}
 
 -- ---- Any calls can be made from C
 
@@ -54,23 +58,31 @@ day-answers = 0 ∷ 0 ∷ 7 ∷ []
 addresses : List ℕ
 addresses = bytes-of (ip 10 2 2 3 ∷ ip 11 0 0 1 ∷ [])
 
+-- a message that withdraws 11/8, which is not stored, and announces 10/8 with the hop of 192.0.2.1
+message : List ℕ
+message = replicate 16 255 ++ (0 ∷ 34 ∷ 2 ∷ 0 ∷ 2 ∷ 8 ∷ 11 ∷ 0 ∷ 7 ∷ 64 ∷ 3 ∷ 4 ∷ 192 ∷ 0 ∷ 2 ∷ 1 ∷ 8 ∷ 10 ∷ [])
+
+hops : List ℕ
+hops = ip 198 51 100 1 ∷ ip 192 0 2 1 ∷ []
+
+its-calls : List Call
+its-calls = Withdraw (ip 11 0 0 0) 8 ∷ Add (ip 10 0 0 0) 8 1 ∷ []
+
 -- what is computed under settings t, on memory that held anything
 record Worked (t : Settings) (before : Memory) : Type 0 where
   cleared : act t Clear before .refusal ≡ 0
   given : run t (act t Clear before .memory) day .answers ≡ day-answers
   probed : probes-down-to t (stored day day-answers) (ip 10 2 2 3) 8 ≡ 1
+  reported : apply-message t (act t Clear before .memory) message hops .report ≡ record { refusal = 0; accepted = 1; refused = 1 }
+  calls-given : run t (act t Clear before .memory) its-calls .answers ≡ 7 ∷ 0 ∷ []
 
 at-T : Worked T sevens
-unfolding day day-answers showing
-at-T = record { cleared = refl; given = refl; probed = refl }
-
--- T with other filters: D is 5 at length 8, 6 at 16, 7 at 32, and 4 at the rest
-abbrev U : Settings
-U = record { k = 2; d = replicate 7 4 ++ (5 ∷ replicate 7 4) ++ (6 ∷ replicate 15 4) ++ 7 ∷ []; e = 1; s = 2; a = 1; b = 2; c = 1 }
+unfolding day day-answers message hops its-calls reading showing
+at-T = record { cleared = refl; given = refl; probed = refl; reported = refl; calls-given = refl }
 
 at-U : Worked U (record { counters = replicate 688 7; slots = replicate 257 7 })
-unfolding day day-answers showing
-at-U = record { cleared = refl; given = refl; probed = refl }
+unfolding day day-answers message hops its-calls reading showing
+at-U = record { cleared = refl; given = refl; probed = refl; reported = refl; calls-given = refl }
 
 module _ {t : Settings} {before : Memory} (worked : Worked t before) where
   abbrev empty : Memory
@@ -122,6 +134,29 @@ module _ {t : Settings} {before : Memory} (worked : Worked t before) where
   unfolding day day-answers showing addresses bytes-of list-address word-at
   list-none-met = rw (result-read (list-asked last) list-met 1 (lit< tt)) (says-none day-lived (ip 11 0 0 1) (lit< tt) (right (ip 11 0 0 1) (stored day day-answers)))
 
+  -- ---- A message
+
+  sent : (m : Memory) → Sent t m message hops (report-number (apply-message t m message hops .report)) (apply-message t m message hops .memory)
+  unfolding message
+  sent m = record { bytes = refl; crossed = record { number = refl; memory = refl } }
+
+  -- one route is read as accepted and one as refused
+  counts-met : read-report (report-number (apply-message t empty message hops .report)) ≡ record { refusal = 0; accepted = 1; refused = 1 }
+  counts-met = sym (ap (λ r. r .report) (message-read (sent empty))) ∙ worked .reported
+
+  heard : heard-calls message hops (gateway-refusal (report-number (apply-message t empty message hops .report))) ≡ its-calls
+  unfolding message hops its-calls heard-calls reading
+  heard = rw (ap (λ r. r .refusal) counts-met)
+
+  message-lived : History t its-calls (7 ∷ 0 ∷ []) (apply-message t empty message hops .memory)
+  unfolding word-sized its-calls
+  message-lived = rw (heard, worked .calls-given) at (c-history (updated t Clear before refl) (refusal-back _ ∙ worked .cleared) (Then (DidMessage (sent empty)) Stop))
+
+  -- 10.2.2.3 gets the hop of the list's second place
+  message-found-met : Finds (lookup t (apply-message t empty message hops .memory) (ip 10 2 2 3)) (route (ip 10 0 0 0) 8 1)
+  unfolding its-calls showing
+  message-found-met = finds-longest message-lived (ip 10 2 2 3) (lit< tt) (route (ip 10 0 0 0) 8 1) (right (ip 10 2 2 3) (stored its-calls (7 ∷ 0 ∷ [])))
+
   -- ---- A table newly cleared
 
   order : List Route
@@ -135,7 +170,7 @@ module _ {t : Settings} {before : Memory} (worked : Worked t before) where
   unfolding order adds word-sized all-word-sized
   order-lived = lived (adds order) refl
 
-  -- with its one route added, and then 10/8 withdrawn from both, it gives the same number to a lookup
+  -- with its one route added, and then 10/8 withdrawn from both, it gives the same number to a lookup and to the message
   abbrev more : List Call
   more = Withdraw (ip 10 0 0 0) 8 ∷ []
 
@@ -143,3 +178,8 @@ module _ {t : Settings} {before : Memory} (worked : Worked t before) where
       → LookedUp t (run t (run t empty (adds order) .last) more .last) (ip 10 2 2 3) new-answer → new-answer ≡ answer
   unfolding word-sized all-word-sized
   same-met = same-lookup-numbers day-lived order-same order-lived (made t last more refl) (made t (run t empty (adds order) .last) more refl)
+
+  same-message-met : {answer new-answer : ℕ} {m' new-m' : Memory} → Sent t (run t last more .last) message hops answer m'
+      → Sent t (run t (run t empty (adds order) .last) more .last) message hops new-answer new-m' → new-answer ≡ answer
+  unfolding word-sized all-word-sized
+  same-message-met = same-message-numbers day-lived order-same order-lived (made t last more refl) (made t (run t empty (adds order) .last) more refl)

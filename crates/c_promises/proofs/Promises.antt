@@ -3,10 +3,9 @@
 -- reads (proofs/Unpacking.antt).
 use Prim.Native.Nat.{ℕ, _+_, _*_, _^_}
 use mathlib.Core.Path.{_≡_, sym, ap, _∙_}
-use mathlib.Core.List.{List, [], _∷_, _++_}
+use mathlib.Core.List.{List, [], _∷_, append-cancel-left}
 use native.Mathlib.Nat.{zero-add}
 use lib.ListN.{length, getD}
-use lib.Seq.{getD-append-seam}
 use Rattle.rules.specs.declared.Settings.{Settings}
 use Rattle.rules.specs.Table.{Memory, one-if, answer-number}
 use Rattle.rules.specs.Calls.{Call}
@@ -14,9 +13,10 @@ use Rattle.promises.specs.History.{Route, stored, SingleCalls, History}
 use Rattle.promises.specs.Demands.{Reordered, Longest, NoMatch, probes-down-to, adds}
 use Rattle.promises.proofs.Histories.{one-made, made-append}
 use Rattle.promises.proofs.Promises.{finds-longest, says-none, probes-counted, same-numbers, same-lookups-after, same-vectors-after}
+use Rattle.message_promises.proofs.Promises.{same-reports}
 use Rattle.c_promises.specs.Numbers.{gateway-refusal}
-use Rattle.c_promises.specs.Calls.{Updated, LookedUp, Matched, ListedUp}
-use Rattle.c_promises.proofs.Unpacking.{update-read, update-zero-elsewhere, looked-up, equal-lookups, equal-vectors}
+use Rattle.c_promises.specs.Calls.{Updated, LookedUp, Matched, ListedUp, Sent}
+use Rattle.c_promises.proofs.Unpacking.{update-read, update-zero-elsewhere, looked-up, equal-lookups, equal-vectors, equal-messages}
 use Rattle.c_promises.proofs.Lists.{equal-list-numbers, equal-lists}
 
 -- ---- The number of a lookup
@@ -44,10 +44,6 @@ module _ {t : Settings} {calls : List Call} {answers : List ℕ} {m : Memory} (h
 
 -- ---- Demand 3, of a table newly cleared under these settings, to which the stored routes are added, in any order
 
--- two lists of answers with one more at their ends
-last-answer : (answers : List ℕ) (a b : ℕ) → answers ++ a ∷ [] ≡ answers ++ b ∷ [] → a ≡ b
-last-answer answers a b e = sym (getD-append-seam answers a [] 0) ∙ ap (λ l. getD l (length answers) 0) e ∙ getD-append-seam answers b [] 0
-
 -- Whatever calls are then made to both, it gives a C program the same numbers: more may be none at all.
 module _ {t : Settings} {calls : List Call} {answers : List ℕ} {m : Memory} (history : History t calls answers m)
     {order : List Route} (same : Reordered (stored calls answers) order) {new-answers : List ℕ} {new-m : Memory} (anew : History t (adds order) new-answers new-m)
@@ -65,11 +61,15 @@ module _ {t : Settings} {calls : List Call} {answers : List ℕ} {m : Memory} (h
   pub same-update-numbers : {call : Call} {m' new-m' : Memory} {answer new-answer : ℕ} → Updated t call last answer m' → Updated t call new-last new-answer new-m'
       → new-answer ≡ answer
   same-update-numbers {answer = answer} {new-answer} updated new-updated =
-      let all = same-numbers history same anew (made-append made (one-made (updated .word) (update-read updated)))
-      (made-append made-anew (one-made (new-updated .word) (update-read new-updated)))
-      in update-zero-elsewhere new-updated
-      ∙ ap (λ refusal. refusal * 2 ^ 48) (last-answer more-answers (gateway-refusal new-answer) (gateway-refusal answer) (rw (same-numbers history same anew made made-anew) at all))
-      ∙ sym (update-zero-elsewhere updated)
+      let both = same-numbers history same anew (made-append made (one-made (updated .word) (update-read updated)))
+      (made-append made-anew (one-made (new-updated .word) (update-read new-updated))) in
+      let refusals : gateway-refusal new-answer ∷ [] ≡ gateway-refusal answer ∷ [] = append-cancel-left more-new-answers _ _ (both ∙ rw (same-numbers history same anew made made-anew)) in
+      update-zero-elsewhere new-updated ∙ ap (λ numbers. getD numbers 0 0 * 2 ^ 48) refusals ∙ sym (update-zero-elsewhere updated)
+
+  -- of a message,
+  pub same-message-numbers : {message hops : List ℕ} {m' new-m' : Memory} {answer new-answer : ℕ} → Sent t last message hops answer m' → Sent t new-last message hops new-answer new-m'
+      → new-answer ≡ answer
+  same-message-numbers {message} {hops} sent new-sent = equal-messages sent new-sent (same-reports history same anew made made-anew message hops (sent .bytes))
 
   -- and of a list of addresses, over as many bytes of results,
   module _ {addresses results results' new-results new-results' : List ℕ} {answer new-answer : ℕ}

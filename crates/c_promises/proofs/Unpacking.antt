@@ -19,11 +19,12 @@ use Rattle.rules.proofs.Vectors.{bits-lt}
 use Rattle.c_words.proofs.Bytes.{four-each}
 use Rattle.c_words.proofs.Words.{count-whole, count-none}
 use Rattle.c_numbers.specs.Fitting.{Fits}
-use Rattle.message_format.specs.Reading.{apply-message, report-number}
+use Rattle.message_format.specs.Reading.{refused-message, apply-message, report-number}
 use Rattle.message_format.proofs.Counting.{counts-fit}
 use Rattle.gateway.specs.Crossing.{ListCrossed}
 use Rattle.gateway.proofs.Fitting.{lookup-fits}
 use Rattle.promises.proofs.Refused as demand-1
+use Rattle.message_promises.proofs.Refused.{refused-unchanged}
 use Rattle.c_promises.specs.Numbers.{gateway-refusal, gateway-found, gateway-hop, gateway-length, gateway-probes, gateway-vector, gateway-accepted, gateway-refused, read-answer, read-vector, read-report}
 use Rattle.c_promises.specs.Calls.{Updated, LookedUp, Matched, Sent}
 
@@ -236,6 +237,13 @@ module _ {t : Settings} {m m' : Memory} {message hops : List ℕ} {answer : ℕ}
   pub message-zero-elsewhere : answer ≡ gateway-refusal answer * 2 ^ 48 + gateway-refused answer * 2 ^ 12 + gateway-accepted answer
   unfolding report-number
   message-zero-elsewhere = sent .crossed .number ∙ ap report-number (sym report-read)
+
+  -- Where it is refused, its number is the refusal alone.
+  pub message-refused : gateway-refusal answer ≢ 0 → answer ≡ gateway-refusal answer * 2 ^ 48
+  unfolding report-number refused-message
+  message-refused bad =
+      let its = ap (λ r. r .refusal) report-read in
+      sent .crossed .number ∙ rw (its, refused-unchanged t m message hops (λ good. bad (its ∙ good))) (omega arith)
 
 -- Two tables that give a message the same report give the same number.
 pub equal-messages : {t : Settings} {m m' other other' : Memory} {message hops : List ℕ} {answer new-answer : ℕ} → Sent t m message hops answer m' → Sent t other message hops new-answer other'

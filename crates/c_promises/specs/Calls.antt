@@ -9,11 +9,12 @@ use lib.ListN.{length}
 use lib.Pow.{areBytes}
 use Rattle.rules.specs.declared.Settings.{Settings}
 use Rattle.rules.specs.Table.{Memory, lent, words, c-lookup, c-match-vector, bytes-of, c-lookup-list}
-use Rattle.rules.specs.Calls.{Call, word-sized, act}
+use Rattle.rules.specs.Calls.{Call, word-sized, act, run}
 use Rattle.message_format.specs.Reading.{apply-message}
 use Rattle.message_format.specs.Writing.{write-withdrawal}
 use Rattle.gateway.specs.Crossing.{Crossed, ListCrossed, MessageCrossed}
 use Rattle.promises.specs.Demands.{Condition, _when_, memory-conditions}
+use Rattle.message_promises.specs.Heard.{heard-calls}
 use Rattle.c_promises.specs.Numbers.{gateway-refusal}
 
 -- ---- Single calls of include/gateway.h
@@ -58,7 +59,10 @@ list-conditions t counters slots addresses results =
 -- ---- What a C program did
 
 -- One thing that a C program can do with a table under settings t: an update, which is a single call with the refusal that
--- the header reads, or a list of addresses, which is none and changes nothing.
+-- the header reads; a list of addresses, which is none and changes nothing; or a message, which is its single calls, or none
+-- where it was refused.
 pub data Did (t : Settings) : Memory → List Call → List ℕ → Memory → Type 0 where
   DidUpdate : {call : Call} {m m' : Memory} {answer : ℕ} → Updated t call m answer m' → Did t m (call ∷ []) (gateway-refusal answer ∷ []) m'
   DidList : {m : Memory} {addresses results results' : List ℕ} {answer : ℕ} → ListedUp t m addresses results answer results' → Did t m [] [] m
+  DidMessage : {m m' : Memory} {message hops : List ℕ} {answer : ℕ} → Sent t m message hops answer m'
+      → Did t m (heard-calls message hops (gateway-refusal answer)) (run t m (heard-calls message hops (gateway-refusal answer)) .answers) m'
