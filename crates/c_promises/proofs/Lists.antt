@@ -48,18 +48,18 @@ module _ (t : Settings) (counters slots addresses results : List ℕ) (answer : 
   unfolding c-lookup-list listed
   its-refusal = sym (ap (λ l. l .refusal) (list-read crossed))
 
-  first : gateway-refusal answer ≡ first-met listed-conditions
+  list-first : gateway-refusal answer ≡ first-met listed-conditions
   unfolding list-conditions c-list-refusal list-refusal fourfold first-met
-  first = its-refusal ∙ ap (memory-refusal t _) (either-18 _ _) ∙ memory-then t _ _
+  list-first = its-refusal ∙ ap (memory-refusal t _) (either-18 _ _) ∙ memory-then t _ _
 
   -- A number is given exactly if its condition is met and none is of those before it in the list.
   pub list-number : (n : ℕ) → 1 ≤ n → (gateway-refusal answer ≡ n) ↔ FirstMet n listed-conditions
-  list-number = given-exactly listed-conditions first
+  list-number = given-exactly listed-conditions list-first
 
   -- The list is accepted exactly if no condition is met.
   pub list-accepted-exactly : (gateway-refusal answer ≡ 0) ↔ NoneMet listed-conditions
   unfolding numbered all list-conditions memory-conditions
-  list-accepted-exactly = none-exactly listed-conditions first refl
+  list-accepted-exactly = none-exactly listed-conditions list-first refl
 
   -- These are its numbers, in that order.
   pub list-numbers-listed : map (λ c. c .number) listed-conditions ≡ 1 ∷ 2 ∷ 18 ∷ []

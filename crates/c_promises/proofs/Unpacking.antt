@@ -217,8 +217,8 @@ module _ (refusal refused accepted : ℕ) (few : refused < 2 ^ 12) (few-accepted
   reads-report : read-report whole ≡ record { refusal = refusal; accepted = accepted; refused = refused }
   unfolding gateway-refusal gateway-accepted gateway-refused
   reads-report =
-      let first : whole / 2 ^ 48 ≡ refusal = omega arith in
-      let last : whole % 2 ^ 12 ≡ accepted = omega arith in
+      let first : gateway-refusal whole ≡ refusal = omega arith in
+      let last : gateway-accepted whole ≡ accepted = omega arith in
       λ k. record { refusal = first k; accepted = last k; refused = reads-refused k }
 
 module _ {t : Settings} {m m' : Memory} {message hops : List ℕ} {answer : ℕ} (sent : Sent t m message hops answer m') where
