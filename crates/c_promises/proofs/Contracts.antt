@@ -21,11 +21,11 @@ use borrow.Fn.Kinds.{GoodsP}
 use borrow.Author.Tests.{lt-ltb}
 use borrow.Rule.Slice.Know.{AllWT}
 use borrow.Table.Referent.{fInt}
-use Rattle.rules.specs.Table.{bytes-of}
-use Rattle.promises.specs.History.{Clear, Add, Withdraw, Change, word-sized, act}
-use Rattle.promises.proofs.Contracts.{owned}
-use Rattle.promises.proofs.Elements.{elements-owned}
-use Rattle.c_promises.specs.Calls.{Updated, LookedUp, Matched, ListedUp}
+use Rattle.rules.specs.Table.{lent, bytes-of}
+use Rattle.rules.specs.Calls.{Clear, Add, Withdraw, Change, word-sized, act}
+use Rattle.caller_promises.proofs.Contracts.{owned}
+use Rattle.caller_promises.proofs.Elements.{elements-owned}
+use Rattle.c_promises.specs.Calls.{Updated, LookedUp, Matched, ListedUp, Sent, Wrote}
 use Rattle.gateway.proofs.Arguments.{settings, past}
 use Rattle.gateway.proofs.gateway_clear
 use Rattle.gateway.proofs.gateway_clear.Reads as clear-reads
@@ -47,24 +47,30 @@ use Rattle.gateway.proofs.gateway_lookup_list.Reads as list-reads
 use Rattle.gateway.proofs.gateway_match_vector
 use Rattle.gateway.proofs.gateway_match_vector.Kinds as match-vector-kinds
 use Rattle.gateway.proofs.gateway_match_vector.Reads as match-vector-reads
+use Rattle.gateway.proofs.gateway_update
+use Rattle.gateway.proofs.gateway_update.Kinds as update-kinds
+use Rattle.gateway.proofs.gateway_update.Reads as update-reads
+use Rattle.gateway.proofs.gateway_write_withdrawal
+use Rattle.gateway.proofs.gateway_write_withdrawal.Kinds as written-kinds
+use Rattle.gateway.proofs.gateway_write_withdrawal.Reads as written-reads
 
 pub clear-made : (κs : Lfts 3) (a : ArgsD gateway_clear.signature κs) (r : ResD gateway_clear.signature κs) (end : AtExit gateway_clear.ended κs) → clear-reads.Learnt κs a r end
-    → Updated (settings a) Clear (now (past a .0)) (now (past a .1 .0)) r (now (past end .0)) (now (past end .1 .0))
+    → Updated (settings a) Clear (lent (now (past a .0)) (now (past a .1 .0))) r (lent (now (past end .0)) (now (past end .1 .0)))
 unfolding word-sized act
 clear-made κs a r end learnt = record { word = refl; crossed = learnt }
 
 pub add-made : (κs : Lfts 3) (a : ArgsD gateway_add.signature κs) (r : ResD gateway_add.signature κs) (end : AtExit gateway_add.ended κs) → GoodsP κs add-kinds.ps a → add-reads.Learnt κs a r end
-    → Updated (settings a) (Add (past a .1 .1 .0) (past a .1 .1 .1 .0) (past a .1 .1 .1 .1 .0)) (now (past a .0)) (now (past a .1 .0)) r (now (past end .0)) (now (past end .1 .0))
+    → Updated (settings a) (Add (past a .1 .1 .0) (past a .1 .1 .1 .0) (past a .1 .1 .1 .1 .0)) (lent (now (past a .0)) (now (past a .1 .0))) r (lent (now (past end .0)) (now (past end .1 .0)))
 unfolding word-sized act
 add-made κs a r end good learnt = record { word = lt-ltb _ _ (past good .1 .1 .0 .1); crossed = learnt }
 
 pub withdraw-made : (κs : Lfts 3) (a : ArgsD gateway_withdraw.signature κs) (r : ResD gateway_withdraw.signature κs) (end : AtExit gateway_withdraw.ended κs) → GoodsP κs withdraw-kinds.ps a → withdraw-reads.Learnt κs a r end
-    → Updated (settings a) (Withdraw (past a .1 .1 .0) (past a .1 .1 .1 .0)) (now (past a .0)) (now (past a .1 .0)) r (now (past end .0)) (now (past end .1 .0))
+    → Updated (settings a) (Withdraw (past a .1 .1 .0) (past a .1 .1 .1 .0)) (lent (now (past a .0)) (now (past a .1 .0))) r (lent (now (past end .0)) (now (past end .1 .0)))
 unfolding word-sized act
 withdraw-made κs a r end good learnt = record { word = lt-ltb _ _ (past good .1 .1 .0 .1); crossed = learnt }
 
 pub change-made : (κs : Lfts 3) (a : ArgsD gateway_change.signature κs) (r : ResD gateway_change.signature κs) (end : AtExit gateway_change.ended κs) → GoodsP κs change-kinds.ps a → change-reads.Learnt κs a r end
-    → Updated (settings a) (Change (past a .1 .1 .0) (past a .1 .1 .1 .0) (past a .1 .1 .1 .1 .0)) (now (past a .0)) (now (past a .1 .0)) r (now (past end .0)) (now (past end .1 .0))
+    → Updated (settings a) (Change (past a .1 .1 .0) (past a .1 .1 .1 .0) (past a .1 .1 .1 .1 .0)) (lent (now (past a .0)) (now (past a .1 .0))) r (lent (now (past end .0)) (now (past end .1 .0)))
 unfolding word-sized act
 change-made κs a r end good learnt = record { word = lt-ltb _ _ (past good .1 .1 .0 .1); crossed = learnt }
 
@@ -72,18 +78,27 @@ change-made κs a r end good learnt = record { word = lt-ltb _ _ (past good .1 .
 -- asked of the same table.
 
 pub lookup-made : (κs : Lfts 3) (a : ArgsD gateway_lookup.signature κs) (r : ResD gateway_lookup.signature κs) (end : AtExit gateway_lookup.ended κs) → GoodsP κs lookup-kinds.ps a → lookup-reads.Learnt κs a r end
-    → (slots : List ℕ) → now (past a .1 .0) ≡ bytes-of slots → LookedUp (settings a) (now (past a .0)) slots (past a .1 .1 .0) r
+    → (slots : List ℕ) → now (past a .1 .0) ≡ bytes-of slots → LookedUp (settings a) (lent (now (past a .0)) slots) (past a .1 .1 .0) r
 lookup-made κs a r end good learnt slots lies = record { word = past good .1 .1 .0 .1; crossed = rw (← lies) learnt }
 
 pub match-vector-made : (κs : Lfts 3) (a : ArgsD gateway_match_vector.signature κs) (r : ResD gateway_match_vector.signature κs) (end : AtExit gateway_match_vector.ended κs) → GoodsP κs match-vector-kinds.ps a → match-vector-reads.Learnt κs a r end
-    → (slots : List ℕ) → now (past a .1 .0) ≡ bytes-of slots → Matched (settings a) (now (past a .0)) slots (past a .1 .1 .0) r
+    → (slots : List ℕ) → now (past a .1 .0) ≡ bytes-of slots → Matched (settings a) (lent (now (past a .0)) slots) (past a .1 .1 .0) r
 match-vector-made κs a r end good learnt slots lies = record { word = past good .1 .1 .0 .1; crossed = rw (← lies) learnt }
 
 -- A list of addresses also tells what it left of the results.
 pub list-made : (κs : Lfts 5) (a : ArgsD gateway_lookup_list.signature κs) (r : ResD gateway_lookup_list.signature κs) (end : AtExit gateway_lookup_list.ended κs) → list-reads.Learnt κs a r end
     → (slots : List ℕ) → now (past a .1 .0) ≡ bytes-of slots → areBytes (now (past a .1 .1 .0)) ≡ true
-    → ListedUp (settings a) (now (past a .0)) slots (now (past a .1 .1 .0)) r (now (past a .1 .1 .1 .0)) (now (past end .1 .1 .1 .0))
+    → ListedUp (settings a) (lent (now (past a .0)) slots) (now (past a .1 .1 .0)) (now (past a .1 .1 .1 .0)) r (now (past end .1 .1 .1 .0))
 list-made κs a r end learnt slots lies bytes = record { bytes = bytes; crossed = rw (← lies) learnt }
+
+pub update-made : (κs : Lfts 5) (a : ArgsD gateway_update.signature κs) (r : ResD gateway_update.signature κs) (end : AtExit gateway_update.ended κs) → update-reads.Learnt κs a r end
+    → areBytes (now (past a .1 .1 .0)) ≡ true
+    → Sent (settings a) (lent (now (past a .0)) (now (past a .1 .0))) (now (past a .1 .1 .0)) (now (past a .1 .1 .1 .0)) r (lent (now (past end .0)) (now (past end .1 .0)))
+update-made κs a r end learnt bytes = record { bytes = bytes; crossed = learnt }
+
+pub written-made : (κs : Lfts 1) (a : ArgsD gateway_write_withdrawal.signature κs) (r : ResD gateway_write_withdrawal.signature κs) (end : AtExit gateway_write_withdrawal.ended κs) → written-reads.Learnt κs a r end
+    → Wrote (a .0) (a .1 .0) (now (a .1 .1 .0)) r (now (end .1 .1 .0))
+written-made κs a r end learnt = learnt
 
 -- In every model of the logic, what a call asks on entry holds what the types of its arguments tell.
 module _ (w : World) (κs : Lfts 3) (qs : Shares 3) where
@@ -111,10 +126,25 @@ pub all-bytes : (bytes : List ℕ) → AllWT (fInt w8) bytes → areBytes bytes 
 all-bytes [] fit = refl
 all-bytes (byte ∷ bytes) fit = rw (lt-ltb byte 256 (fit .0 .fits)) (all-bytes bytes (fit .1))
 
--- Of a list they tell besides, once it is looked at (⇛), that each byte of the addresses is below 256.
-module _ (w : World) (κs : Lfts 5) (qs : Shares 5) (a : ArgsD gateway_lookup_list.signature κs) (vss : Valss (typesAt (gateway_lookup_list.signature .params) κs)) where
-  pub list-owned : ent (w .𝓤) (onEntry (w .𝓤) (w .H) (w .𝓖 .A) gateway_lookup_list.signature κs qs a vss) (fact (w .𝓤) (GoodsP κs list-kinds.ps a))
-  list-owned = owned w list-kinds.ps list-kinds.r κs qs a vss
+-- Of a list they tell besides, once it is looked at (⇛), that each byte of the addresses is below 256; so of a message.
+module _ (w : World) (κs : Lfts 5) (qs : Shares 5) where
+  pub list-owned : (a : ArgsD gateway_lookup_list.signature κs) (vss : Valss (typesAt (gateway_lookup_list.signature .params) κs))
+      → ent (w .𝓤) (onEntry (w .𝓤) (w .H) (w .𝓖 .A) gateway_lookup_list.signature κs qs a vss) (fact (w .𝓤) (GoodsP κs list-kinds.ps a))
+  list-owned = owned w list-kinds.ps list-kinds.r κs qs
 
-  pub list-bytes-owned : ent (w .𝓤) (onEntry (w .𝓤) (w .H) (w .𝓖 .A) gateway_lookup_list.signature κs qs a vss) (w .H .⇛ (fact (w .𝓤) (areBytes (now (past a .1 .1 .0)) ≡ true)))
-  list-bytes-owned = elements-owned w list-kinds.ps list-kinds.r κs qs a vss (fInt w8) 9 3 tt (past a .1 .1 .0) refl (all-bytes (now (past a .1 .1 .0)))
+  pub list-bytes-owned : (a : ArgsD gateway_lookup_list.signature κs) (vss : Valss (typesAt (gateway_lookup_list.signature .params) κs))
+      → ent (w .𝓤) (onEntry (w .𝓤) (w .H) (w .𝓖 .A) gateway_lookup_list.signature κs qs a vss) (w .H .⇛ (fact (w .𝓤) (areBytes (now (past a .1 .1 .0)) ≡ true)))
+  list-bytes-owned a vss = elements-owned w list-kinds.ps list-kinds.r κs qs a vss (fInt w8) 9 3 tt (past a .1 .1 .0) refl (all-bytes (now (past a .1 .1 .0)))
+
+  pub update-owned : (a : ArgsD gateway_update.signature κs) (vss : Valss (typesAt (gateway_update.signature .params) κs))
+      → ent (w .𝓤) (onEntry (w .𝓤) (w .H) (w .𝓖 .A) gateway_update.signature κs qs a vss) (fact (w .𝓤) (GoodsP κs update-kinds.ps a))
+  update-owned = owned w update-kinds.ps update-kinds.r κs qs
+
+  pub update-bytes-owned : (a : ArgsD gateway_update.signature κs) (vss : Valss (typesAt (gateway_update.signature .params) κs))
+      → ent (w .𝓤) (onEntry (w .𝓤) (w .H) (w .𝓖 .A) gateway_update.signature κs qs a vss) (w .H .⇛ (fact (w .𝓤) (areBytes (now (past a .1 .1 .0)) ≡ true)))
+  update-bytes-owned a vss = elements-owned w update-kinds.ps update-kinds.r κs qs a vss (fInt w8) 9 3 tt (past a .1 .1 .0) refl (all-bytes (now (past a .1 .1 .0)))
+
+module _ (w : World) (κs : Lfts 1) (qs : Shares 1) where
+  pub written-owned : (a : ArgsD gateway_write_withdrawal.signature κs) (vss : Valss (typesAt (gateway_write_withdrawal.signature .params) κs))
+      → ent (w .𝓤) (onEntry (w .𝓤) (w .H) (w .𝓖 .A) gateway_write_withdrawal.signature κs qs a vss) (fact (w .𝓤) (GoodsP κs written-kinds.ps a))
+  written-owned = owned w written-kinds.ps written-kinds.r κs qs

@@ -1,10 +1,10 @@
--- The demands, of what a C program is given (Promises) and of each result of a list of addresses (Lists), that what they
--- speak of is what the exported calls' contracts tell (Contracts), and a worked program that meets their premises
--- (Premises). Below them is what carries them: a run of exported calls is a run of the table's (Runs), and a number comes
--- apart into what was put together (Unpacking).
-pub mod Promises
+-- A history is what a C program did (Seat), and what it reads is what the rules answer: from each number (Unpacking) and from
+-- each result of a list of addresses (Lists). So every promise of crates/promises and crates/message_promises is one to it.
+-- What is said of the 64-bit numbers themselves is in Promises, what the contracts tell in Contracts, and worked programs that
+-- meet the premises in Premises.
+pub mod Seat
+pub mod Unpacking
 pub mod Lists
+pub mod Promises
 pub mod Contracts
 pub mod Premises
-pub mod Runs
-pub mod Unpacking

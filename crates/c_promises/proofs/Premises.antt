@@ -1,105 +1,185 @@
--- The premises of the promises are met: a small program under settings T, two of whose updates are refused, computed and
--- handed to the promises.
+-- Small worked programs meet the premises, under settings T and under filters of unequal size: what the calls give back is
+-- computed, and handed to the promises.
 use Prim.Native.Nat.{ℕ, _+_, _*_, _^_}
-use mathlib.Core.Path.{_≡_, refl}
+use mathlib.Core.Path.{_≡_, refl, sym, ap, _∙_}
 use mathlib.Core.Bool.{true}
-use mathlib.Core.List.{List, [], _∷_}
-use lib.Dec.{eqb, lit<}
+use mathlib.Core.List.{List, [], _∷_, _++_}
+use native.Mathlib.Omega.{arith}
+use lib.Dec.{lit<}
 use lib.ListN.{replicate}
 use Rattle.rules.specs.declared.Settings.{Settings}
-use Rattle.rules.specs.Table.{Memory, lent, answer-words, list-words, Listed, list-refusal, listed, fourfold, whole-words, words, c-lookup, bytes-of, c-list-refusal, c-lookup-list}
-use Rattle.rules.proofs.Worked.{ip, T, same-words}
+use Rattle.rules.specs.Table.{Memory, lookup, Listed, c-lookup, bytes-of, c-lookup-list}
+use Rattle.rules.specs.Calls.{Call, Clear, Add, Withdraw, word-sized, all-word-sized, act, run, each}
+use Rattle.rules.proofs.Worked.{ip, T}
 use Rattle.rules.proofs.Members.{both}
-use Rattle.promises.specs.History.{Call, Clear, Add, Withdraw, word-sized, all-word-sized, act}
-use Rattle.promises.specs.Demands.{matches, longest, longer}
-use Rattle.promises.specs.Calls.{Made, numbers-of, on-paper}
+use Rattle.message_format.specs.Reading.{apply-message, report-number}
+use Rattle.message_format.proofs.Worked.{computing as reading}
+use Rattle.promises.specs.History.{Route, stored, History, Ran, Stop, Then}
+use Rattle.promises.specs.Demands.{Finds, SaysNone, Reordered, Nothing, First, Longest, NoMatch, probes-down-to, adds}
+use Rattle.promises.proofs.Agree.{sevens, showing}
 use Rattle.promises.proofs.Paper.{route}
 use Rattle.promises.proofs.Matches.{right}
-use Rattle.promises.proofs.Agree.{sevens, computing}
-use Rattle.c_promises.specs.Numbers.{gateway-refusal, Finds, word-at, list-address, FindsAt}
-use Rattle.c_promises.specs.Calls.{ListedUp, Ran, Stop, Step, told, Served}
-use Rattle.c_promises.proofs.Promises.{finds-longest}
-use Rattle.c_promises.proofs.Lists.{list-finds-longest}
+use Rattle.promises.proofs.Premises.{U}
+use Rattle.promises.proofs.Histories.{made}
+use Rattle.promises.proofs.Promises.{finds-longest, says-none}
+use Rattle.message_promises.specs.Heard.{heard-calls}
+use Rattle.c_promises.specs.Numbers.{gateway-refusal, word-at, list-address, read-answer, read-report, read-result}
+use Rattle.c_promises.specs.Calls.{Updated, LookedUp, ListedUp, Sent, Did, DidUpdate, DidList, DidMessage}
+use Rattle.c_promises.proofs.Unpacking.{answer-read, message-read}
+use Rattle.c_promises.proofs.Lists.{list-accepted, result-read}
+use Rattle.c_promises.proofs.Seat.{c-history}
+use Rattle.c_promises.proofs.Promises.{number-found, same-lookup-numbers, same-message-numbers}
 
--- these updates can be made, each with what the rules give back and leave
-record Run (t : Settings) (counters slots : List ℕ) : Type 0 where
-  log : List Made
-  last-counters : List ℕ
-  last-slots : List ℕ
-  ran : Ran t counters slots log last-counters last-slots
+-- ---- Any calls can be made from C
 
-run : (t : Settings) (counters slots : List ℕ) (calls : List Call) → all-word-sized calls ≡ true → Run t counters slots
-unfolding all-word-sized
-run t counters slots [] words = record { log = []; last-counters = counters; last-slots = slots; ran = Stop }
-run t counters slots (call ∷ calls) words =
+refusal-back : (refusal : ℕ) → gateway-refusal (refusal * 2 ^ 48) ≡ refusal
+unfolding gateway-refusal
+refusal-back refusal = omega arith
+
+updated : (t : Settings) (call : Call) (m : Memory) → word-sized call ≡ true → Updated t call m (act t call m .refusal * 2 ^ 48) (act t call m .memory)
+updated t call m word = record { word = word; crossed = record { number = refl; memory = refl } }
+
+did-all : (t : Settings) (m : Memory) (calls : List Call) → all-word-sized calls ≡ true → Ran (Did t) m calls (run t m calls .answers) (run t m calls .last)
+unfolding run each all-word-sized
+did-all t m [] words = Stop
+did-all t m (call ∷ calls) words =
     let parts = both (word-sized call) (all-word-sized calls) words in
-    let u = act t call (lent counters slots) in
-    let rest = run t (u .memory .counters) (u .memory .slots) calls (parts .1) in
-    record {
-      log = record { call = call; given = u .refusal * 2 ^ 48 } ∷ rest .log;
-      last-counters = rest .last-counters;
-      last-slots = rest .last-slots;
-      ran = Step call (u .refusal * 2 ^ 48) (record { word = parts .0; crossed = record { number = refl; memory = refl } }) (rest .ran);
-    }
+    Then (rw refusal-back at (DidUpdate (updated t call m (parts .0)))) (did-all t (act t call m .memory) calls (parts .1))
+
+-- ---- A day of updates, one of them refused
 
 day : List Call
 day = Add (ip 10 0 0 0) 8 7 ∷ Add (ip 10 0 0 0) 8 9 ∷ Withdraw (ip 11 0 0 0) 8 ∷ []
 
-day-words : all-word-sized day ≡ true
-unfolding day all-word-sized word-sized
-day-words = refl
+day-answers : List ℕ
+day-answers = 0 ∷ 0 ∷ 7 ∷ []
 
-abbrev empty : Memory
-empty = act T Clear sevens .memory
-
-day-run : Run T (empty .counters) (empty .slots)
-day-run = run T (empty .counters) (empty .slots) day day-words
-
-day-answers : same-words (numbers-of (day-run .log)) (0 ∷ 0 ∷ 7 * 2 ^ 48 ∷ []) ≡ true
-unfolding day day-run run numbers-of same-words computing
-day-answers = refl
-
-day-served : Served T (day-run .log) (day-run .last-counters) (day-run .last-slots)
-unfolding word-sized gateway-refusal computing
-day-served = record {
-  counters-before = sevens .counters;
-  slots-before = sevens .slots;
-  answer = 0;
-  counters-cleared = empty .counters;
-  slots-cleared = empty .slots;
-  cleared = record { word = refl; crossed = record { number = refl; memory = refl } };
-  accepted = refl;
-  ran = day-run .ran;
-}
-
--- a lookup of 10.2.2.3 finds 10.0.0.0/8 with the last hop, 9, in one probe
-abbrev answer : ℕ
-answer = c-lookup T (day-run .last-counters) (bytes-of (day-run .last-slots)) (ip 10 2 2 3)
-
-found-met : Finds answer (route (ip 10 0 0 0) 8 9)
-unfolding day day-run run told on-paper gateway-refusal longest longer matches computing
-found-met = finds-longest day-served (ip 10 2 2 3) answer (record { word = lit< tt; crossed = refl }) (route (ip 10 0 0 0) 8 9) (right (ip 10 2 2 3) (on-paper [] (told (day-run .log))))
-
-number-met : eqb answer (2 ^ 40 + 9 * 2 ^ 16 + 8 * 2 ^ 8 + 1) ≡ true
-unfolding day day-run run bytes-of computing
-number-met = refl
-
--- and a list of two addresses, into thirty-two bytes, finds it for the first and says none of the second
-abbrev addresses : List ℕ
+-- two addresses as bytes
+addresses : List ℕ
 addresses = bytes-of (ip 10 2 2 3 ∷ ip 11 0 0 1 ∷ [])
 
-abbrev list : Listed
-list = c-lookup-list T (day-run .last-counters) (bytes-of (day-run .last-slots)) addresses (replicate 32 9)
+-- a message that withdraws 11/8, which is not stored, and announces 10/8 with the hop of 192.0.2.1
+message : List ℕ
+message = replicate 16 255 ++ (0 ∷ 34 ∷ 2 ∷ 0 ∷ 2 ∷ 8 ∷ 11 ∷ 0 ∷ 7 ∷ 64 ∷ 3 ∷ 4 ∷ 192 ∷ 0 ∷ 2 ∷ 1 ∷ 8 ∷ 10 ∷ [])
 
-list-asked : ListedUp T (day-run .last-counters) (day-run .last-slots) addresses (list .refusal * 2 ^ 48) (replicate 32 9) (list .results)
-unfolding bytes-of
-list-asked = record { bytes = refl; crossed = record { number = refl; results = refl } }
+hops : List ℕ
+hops = ip 198 51 100 1 ∷ ip 192 0 2 1 ∷ []
 
-list-words-met : same-words (words (list .results)) (1 ∷ 9 ∷ 8 ∷ 1 ∷ 0 ∷ 0 ∷ 0 ∷ 0 ∷ []) ≡ true
-unfolding day day-run run same-words computing bytes-of words whole-words c-lookup-list c-list-refusal list-refusal listed fourfold list-words answer-words
-list-words-met = refl
+its-calls : List Call
+its-calls = Withdraw (ip 11 0 0 0) 8 ∷ Add (ip 10 0 0 0) 8 1 ∷ []
 
-list-found-met : FindsAt (list .results) 0 (route (ip 10 0 0 0) 8 9)
-unfolding day day-run run told on-paper gateway-refusal longest longer matches computing bytes-of list-address word-at c-lookup-list c-list-refusal list-refusal listed fourfold
-list-found-met =
-    list-finds-longest day-served list-asked refl 0 (lit< tt) (route (ip 10 0 0 0) 8 9) (right (ip 10 2 2 3) (on-paper [] (told (day-run .log))))
+-- what is computed under settings t, on memory that held anything
+record Worked (t : Settings) (before : Memory) : Type 0 where
+  cleared : act t Clear before .refusal ≡ 0
+  given : run t (act t Clear before .memory) day .answers ≡ day-answers
+  probed : probes-down-to t (stored day day-answers) (ip 10 2 2 3) 8 ≡ 1
+  reported : apply-message t (act t Clear before .memory) message hops .report ≡ record { refusal = 0; accepted = 1; refused = 1 }
+  calls-given : run t (act t Clear before .memory) its-calls .answers ≡ 7 ∷ 0 ∷ []
+
+at-T : Worked T sevens
+unfolding day day-answers message hops its-calls reading showing
+at-T = record { cleared = refl; given = refl; probed = refl; reported = refl; calls-given = refl }
+
+at-U : Worked U (record { counters = replicate 688 7; slots = replicate 257 7 })
+unfolding day day-answers message hops its-calls reading showing
+at-U = record { cleared = refl; given = refl; probed = refl; reported = refl; calls-given = refl }
+
+module _ {t : Settings} {before : Memory} (worked : Worked t before) where
+  abbrev empty : Memory
+  empty = act t Clear before .memory
+
+  -- a list of two addresses, into thirty-two bytes
+  abbrev list : Memory → Listed
+  list m = c-lookup-list t (m .counters) (bytes-of (m .slots)) addresses (replicate 32 9)
+
+  list-asked : (m : Memory) → ListedUp t m addresses (replicate 32 9) (list m .refusal * 2 ^ 48) (list m .results)
+  unfolding addresses bytes-of
+  list-asked m = record { bytes = refl; crossed = record { number = refl; results = refl } }
+
+  lived : (calls : List Call) → all-word-sized calls ≡ true → History t calls (run t empty calls .answers) (run t empty calls .last)
+  unfolding word-sized
+  lived calls words = c-history (updated t Clear before refl) (refusal-back _ ∙ worked .cleared) (Then (DidList (list-asked empty)) (did-all t empty calls words))
+
+  abbrev last : Memory
+  last = run t empty day .last
+
+  day-lived : History t day day-answers last
+  unfolding day word-sized all-word-sized
+  day-lived = rw (worked .given) at (lived day refl)
+
+  looked : (m : Memory) → LookedUp t m (ip 10 2 2 3) (c-lookup t (m .counters) (bytes-of (m .slots)) (ip 10 2 2 3))
+  looked m = record { word = lit< tt; crossed = refl }
+
+  best : Longest (ip 10 2 2 3) (stored day day-answers) (route (ip 10 0 0 0) 8 9)
+  unfolding day day-answers showing
+  best = right (ip 10 2 2 3) (stored day day-answers)
+
+  -- a lookup of 10.2.2.3 finds 10.0.0.0/8 with the last hop, 9, in one probe
+  found-met : Finds (read-answer (c-lookup t (last .counters) (bytes-of (last .slots)) (ip 10 2 2 3))) (route (ip 10 0 0 0) 8 9)
+  found-met = rw (answer-read (looked last)) (finds-longest day-lived (ip 10 2 2 3) (lit< tt) (route (ip 10 0 0 0) 8 9) best)
+
+  number-met : c-lookup t (last .counters) (bytes-of (last .slots)) (ip 10 2 2 3) ≡ 2 ^ 40 + 9 * 2 ^ 16 + 8 * 2 ^ 8 + 1
+  number-met = number-found day-lived (looked last) (route (ip 10 0 0 0) 8 9) best ∙ ap (λ probes. 2 ^ 40 + 9 * 2 ^ 16 + 8 * 2 ^ 8 + probes) (worked .probed)
+
+  -- the list finds it for the first address, and says none of the second
+  list-met : gateway-refusal (list last .refusal * 2 ^ 48) ≡ 0
+  unfolding addresses bytes-of
+  list-met = list-accepted day-lived (list-asked last) .1 (refl, refl)
+
+  list-found-met : Finds (read-result (list last .results) 0) (route (ip 10 0 0 0) 8 9)
+  unfolding addresses bytes-of list-address word-at
+  list-found-met = rw (result-read (list-asked last) list-met 0 (lit< tt)) (finds-longest day-lived (ip 10 2 2 3) (lit< tt) (route (ip 10 0 0 0) 8 9) best)
+
+  list-none-met : SaysNone (read-result (list last .results) 1)
+  unfolding day day-answers showing addresses bytes-of list-address word-at
+  list-none-met = rw (result-read (list-asked last) list-met 1 (lit< tt)) (says-none day-lived (ip 11 0 0 1) (lit< tt) (right (ip 11 0 0 1) (stored day day-answers)))
+
+  -- ---- A message
+
+  sent : (m : Memory) → Sent t m message hops (report-number (apply-message t m message hops .report)) (apply-message t m message hops .memory)
+  unfolding message
+  sent m = record { bytes = refl; crossed = record { number = refl; memory = refl } }
+
+  -- one route is read as accepted and one as refused
+  counts-met : read-report (report-number (apply-message t empty message hops .report)) ≡ record { refusal = 0; accepted = 1; refused = 1 }
+  counts-met = sym (ap (λ r. r .report) (message-read (sent empty))) ∙ worked .reported
+
+  heard : heard-calls message hops (gateway-refusal (report-number (apply-message t empty message hops .report))) ≡ its-calls
+  unfolding message hops its-calls heard-calls reading
+  heard = rw (ap (λ r. r .refusal) counts-met)
+
+  message-lived : History t its-calls (7 ∷ 0 ∷ []) (apply-message t empty message hops .memory)
+  unfolding word-sized its-calls
+  message-lived = rw (heard, worked .calls-given) at (c-history (updated t Clear before refl) (refusal-back _ ∙ worked .cleared) (Then (DidMessage (sent empty)) Stop))
+
+  -- 10.2.2.3 gets the hop of the list's second place
+  message-found-met : Finds (lookup t (apply-message t empty message hops .memory) (ip 10 2 2 3)) (route (ip 10 0 0 0) 8 1)
+  unfolding its-calls showing
+  message-found-met = finds-longest message-lived (ip 10 2 2 3) (lit< tt) (route (ip 10 0 0 0) 8 1) (right (ip 10 2 2 3) (stored its-calls (7 ∷ 0 ∷ [])))
+
+  -- ---- A table newly cleared
+
+  order : List Route
+  order = route (ip 10 0 0 0) 8 9 ∷ []
+
+  order-same : Reordered (stored day day-answers) order
+  unfolding day day-answers order showing
+  order-same = First (route (ip 10 0 0 0) 8 9) Nothing
+
+  order-lived : History t (adds order) (run t empty (adds order) .answers) (run t empty (adds order) .last)
+  unfolding order adds word-sized all-word-sized
+  order-lived = lived (adds order) refl
+
+  -- with its one route added, and then 10/8 withdrawn from both, it gives the same number to a lookup and to the message
+  abbrev more : List Call
+  more = Withdraw (ip 10 0 0 0) 8 ∷ []
+
+  same-met : {answer new-answer : ℕ} → LookedUp t (run t last more .last) (ip 10 2 2 3) answer
+      → LookedUp t (run t (run t empty (adds order) .last) more .last) (ip 10 2 2 3) new-answer → new-answer ≡ answer
+  unfolding word-sized all-word-sized
+  same-met = same-lookup-numbers day-lived order-same order-lived (made t last more refl) (made t (run t empty (adds order) .last) more refl)
+
+  same-message-met : {answer new-answer : ℕ} {m' new-m' : Memory} → Sent t (run t last more .last) message hops answer m'
+      → Sent t (run t (run t empty (adds order) .last) more .last) message hops new-answer new-m' → new-answer ≡ answer
+  unfolding word-sized all-word-sized
+  same-message-met = same-message-numbers day-lived order-same order-lived (made t last more refl) (made t (run t empty (adds order) .last) more refl)

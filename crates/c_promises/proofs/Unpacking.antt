@@ -1,87 +1,34 @@
--- What the header reads from a number is what the call had put there: the parts fit beside each other.
-use Prim.Native.Nat.{ℕ, _*_, _/_, _%_, _^_, _<_}
-use mathlib.Core.Path.{_≡_, refl, sym, ap₂}
+-- What the header reads from a number is what the call put there, since the parts fit beside each other. So whatever is
+-- promised of an answer is promised of what a C program reads.
+use Prim.Native.Nat.{ℕ, _+_, _*_, _/_, _%_, _^_, _<_}
+use mathlib.Core.Path.{_≡_, refl, sym, ap, ap₂, _∙_}
 use mathlib.Core.Bool.{Bool, true, false, cond}
 use mathlib.Core.List.{List, [], _∷_}
-use mathlib.Core.Logic.{_↔_}
+use mathlib.Core.Logic.{_↔_, _≢_}
 use native.Mathlib.Decide.{ℕ-discrete}
 use native.Mathlib.Omega.{arith}
-use lib.Dec.{ltb, eqb}
+use lib.Dec.{eqb}
 use lib.ListN.{length}
-use lib.Pow.{areBytes}
-use borrow.Author.Tests.{eq-eqb, ltb-true, lt-ltb}
+use lib.Pow.{low}
+use borrow.Author.Tests.{eq-eqb}
 use Rattle.rules.specs.declared.Answer.{Answer}
-use Rattle.rules.specs.declared.Vector.{Vector}
 use Rattle.rules.specs.declared.Settings.{Settings}
-use Rattle.rules.specs.Tools.{all}
-use Rattle.rules.specs.Table.{slots-size, Memory, memory-refusal, Outcome, lent, left, whole-words, words, one-if, answer-number, vector-number, lookup, match-vector, vector-of, c-lookup, c-match-vector, bytes-of}
-use Rattle.rules.proofs.Members.{both}
+use Rattle.rules.specs.Table.{slots-size, Memory, memory-refusal, lent, whole-words, words, one-if, answer-number, vector-number, lookup, match-vector, refused, vector-of, c-lookup, c-match-vector, bytes-of, Listed, answered}
+use Rattle.rules.specs.Calls.{Call, act}
 use Rattle.rules.proofs.Vectors.{bits-lt}
 use Rattle.c_words.proofs.Bytes.{four-each}
 use Rattle.c_words.proofs.Words.{count-whole, count-none}
 use Rattle.c_numbers.specs.Fitting.{Fits}
-use Rattle.gateway.specs.Crossing.{Crossed}
+use Rattle.message_format.specs.Reading.{refused-message, apply-message, report-number}
+use Rattle.message_format.proofs.Counting.{counts-fit}
+use Rattle.gateway.specs.Crossing.{ListCrossed}
 use Rattle.gateway.proofs.Fitting.{lookup-fits}
-use Rattle.c_promises.specs.Numbers.{gateway-refusal, gateway-found, gateway-hop, gateway-length, gateway-probes, gateway-vector}
+use Rattle.promises.proofs.Refused as demand-1
+use Rattle.message_promises.proofs.Refused.{refused-unchanged}
+use Rattle.c_promises.specs.Numbers.{gateway-refusal, gateway-found, gateway-hop, gateway-length, gateway-probes, gateway-vector, gateway-accepted, gateway-refused, read-answer, read-vector, read-report}
+use Rattle.c_promises.specs.Calls.{Updated, LookedUp, Matched, Sent}
 
--- ---- Lookups
-
--- what the header reads from a number is this answer
-pub record Parts (answer : ℕ) (r : Answer) : Type 0 where
-  pub refusal : gateway-refusal answer ≡ r .refusal
-  pub found : gateway-found answer ≡ one-if (r .found)
-  pub hop : gateway-hop answer ≡ r .hop
-  pub length : gateway-length answer ≡ r .length
-  pub probes : gateway-probes answer ≡ r .probes
-
-one-if-small : (found : Bool) → one-if found < 2
-unfolding one-if
-one-if-small true = omega arith
-one-if-small false = omega arith
-
-answer-parts : (r : Answer) → Fits r → Parts (answer-number r) r
-unfolding gateway-refusal gateway-found gateway-hop gateway-length gateway-probes answer-number
-answer-parts r fits = omega (arith, one-if-small (r .found))
-
--- So it is with a lookup's number and the answer of the rules, on any memory.
-pub lookup-parts : (t : Settings) (counters bytes : List ℕ) (address answer : ℕ) → answer ≡ c-lookup t counters bytes address
-    → Parts answer (lookup t (lent counters (words bytes)) address)
-unfolding c-lookup
-lookup-parts t counters bytes address answer given = rw given (answer-parts _ (lookup-fits t (lent counters (words bytes)) address))
-
--- ---- Match vectors
-
-vector-small : (t : Settings) (m : Memory) (address : ℕ) → match-vector t m address .vector < 2 ^ 32
-unfolding match-vector vector-of
-vector-small t m address = go (eqb (memory-refusal t m 0) 0)
-  where
-    go : (b : Bool) → cond b (vector-of t (m .counters) address) 0 < 2 ^ 32
-    go true = bits-lt _ 32
-    go false = omega arith
-
--- what the header reads from a match vector's number
-pub record VectorParts (answer : ℕ) (v : Vector) : Type 0 where
-  pub refusal : gateway-refusal answer ≡ v .refusal
-  pub vector : gateway-vector answer ≡ v .vector
-
-pub vector-parts : (t : Settings) (counters bytes : List ℕ) (address answer : ℕ) → answer ≡ c-match-vector t counters bytes address
-    → VectorParts answer (match-vector t (lent counters (words bytes)) address)
-unfolding gateway-refusal gateway-vector c-match-vector vector-number
-vector-parts t counters bytes address answer given = let small = vector-small t (lent counters (words bytes)) address in omega arith
-
--- ---- Updates
-
-module _ {u : Outcome} {answer : ℕ} {counters slots : List ℕ} (crossed : Crossed u answer counters slots) where
-  -- an update's number is its refusal, and what it leaves is what the rules leave
-  pub update-unpacked : u ≡ left (gateway-refusal answer) counters slots
-  unfolding gateway-refusal
-  update-unpacked = ap₂ (λ r m. record { refusal = r; memory = m }) (omega (arith, crossed .number)) (sym (crossed .memory))
-
-  pub refusal-alone : answer ≡ gateway-refusal answer * 2 ^ 48
-  unfolding gateway-refusal
-  refusal-alone = omega (arith, crossed .number)
-
--- ---- Bytes
+-- ---- Slots as bytes
 
 whole-again : (slots : List ℕ) → whole-words (bytes-of slots) ≡ slots
 unfolding whole-words bytes-of
@@ -93,25 +40,212 @@ pub words-again : (slots : List ℕ) → words (bytes-of slots) ≡ slots
 unfolding words
 words-again slots = rw (eq-eqb (length (bytes-of slots) % 4) 0 (omega (arith, four-each slots))) (whole-again slots)
 
--- Of words of 32 bits all four are bytes.
-pub are-bytes : (slots : List ℕ) → all (λ word. ltb word (2 ^ 32)) slots ≡ true → areBytes (bytes-of slots) ≡ true
-unfolding bytes-of all
-are-bytes [] small = refl
-are-bytes (word ∷ slots) small =
-    let parts = both (ltb word (2 ^ 32)) (all (λ word. ltb word (2 ^ 32)) slots) small in
-    let below = ltb-true word (2 ^ 32) (parts .0) in
-    rw (
-      lt-ltb (word % 2 ^ 8) 256 (omega arith),
-      lt-ltb (word / 2 ^ 8 % 2 ^ 8) 256 (omega arith),
-      lt-ltb (word / 2 ^ 16 % 2 ^ 8) 256 (omega arith),
-      lt-ltb (word / 2 ^ 24) 256 (omega arith),
-    ) (are-bytes slots (parts .1))
-
--- as bytes, the words that some settings ask are four times as many
-pub four-to-a-word : (t : Settings) (bytes : List ℕ) → (length (words bytes) ≡ slots-size t) ↔ (length bytes ≡ 4 * slots-size t)
+-- The size asked of the slots is four bytes for each word, so a lookup and an update ask for the same memory.
+pub slots-in-bytes : (t : Settings) (bytes : List ℕ) → (length (words bytes) ≡ slots-size t) ↔ (length bytes ≡ 4 * slots-size t)
 unfolding slots-size
-four-to-a-word t bytes = (λ as-words. go (ℕ-discrete (length bytes % 4) 0) as-words, λ as-bytes. omega (arith, count-whole bytes (omega arith)))
+slots-in-bytes t bytes = (λ as-words. go (ℕ-discrete (length bytes % 4) 0) as-words, λ as-bytes. omega (arith, count-whole bytes (omega arith)))
   where
     go : Dec (length bytes % 4 ≡ 0) → length (words bytes) ≡ slots-size t → length bytes ≡ 4 * slots-size t
     go (yes whole) as-words = omega (arith, count-whole bytes whole)
     go (no broken) as-words = absurd (omega (arith, count-none bytes broken))
+
+-- ---- Updates
+
+-- a number that is a refusal's part alone
+module _ (answer refusal : ℕ) (given : answer ≡ refusal * 2 ^ 48) where
+  refusal-read : gateway-refusal answer ≡ refusal
+  unfolding gateway-refusal
+  refusal-read = omega arith
+
+  refusal-alone : answer ≡ gateway-refusal answer * 2 ^ 48
+  refusal-alone = rw refusal-read given
+
+module _ {t : Settings} {call : Call} {m m' : Memory} {answer : ℕ} (made : Updated t call m answer m') where
+  -- An update gives back its refusal, and leaves what the rules leave.
+  pub update-read : act t call m ≡ record { refusal = gateway-refusal answer; memory = m' }
+  update-read = ap₂ (λ r left. record { refusal = r; memory = left }) (sym (refusal-read answer _ (made .crossed .number))) (sym (made .crossed .memory))
+
+  -- Every other bit of its number is zero.
+  pub update-zero-elsewhere : answer ≡ gateway-refusal answer * 2 ^ 48
+  update-zero-elsewhere = refusal-alone answer _ (made .crossed .number)
+
+-- ---- Lists of addresses and written withdrawals
+
+module _ {l : Listed} {answer : ℕ} {bytes : List ℕ} (crossed : ListCrossed l answer bytes) where
+  -- So it is with a list of addresses and a written withdrawal, and the bytes that they leave.
+  pub list-read : l ≡ answered (gateway-refusal answer) bytes
+  list-read = ap₂ answered (sym (refusal-read answer _ (crossed .number))) (sym (crossed .results))
+
+  pub list-zero-elsewhere : answer ≡ gateway-refusal answer * 2 ^ 48
+  list-zero-elsewhere = refusal-alone answer _ (crossed .number)
+
+-- ---- Lookups
+
+-- found is 1 or 0, and read back from it
+pub found-back : (n : ℕ) (found : Bool) → n ≡ one-if found → eqb n 1 ≡ found
+unfolding one-if
+found-back n true e = rw e
+found-back n false e = rw e
+
+-- the parts of an answer's number
+record Parts (answer : ℕ) (r : Answer) : Type 0 where
+  refusal : gateway-refusal answer ≡ r .refusal
+  found : gateway-found answer ≡ one-if (r .found)
+  hop : gateway-hop answer ≡ r .hop
+  length : gateway-length answer ≡ r .length
+  probes : gateway-probes answer ≡ r .probes
+
+one-if-small : (found : Bool) → one-if found < 2
+unfolding one-if
+one-if-small true = omega arith
+one-if-small false = omega arith
+
+answer-parts : (r : Answer) → Fits r → Parts (answer-number r) r
+unfolding gateway-refusal gateway-found gateway-hop gateway-length gateway-probes answer-number
+answer-parts r fits = omega (arith, one-if-small (r .found))
+
+-- Over any bytes: those that are not whole words too.
+module _ (t : Settings) (counters bytes : List ℕ) (address answer : ℕ) (given : answer ≡ c-lookup t counters bytes address) where
+  abbrev looked : Answer
+  looked = lookup t (lent counters (words bytes)) address
+
+  parts : Parts answer looked
+  unfolding c-lookup
+  parts = rw given (answer-parts looked (lookup-fits t (lent counters (words bytes)) address))
+
+  -- What is read of a lookup is the answer of the rules.
+  pub lookup-read : read-answer answer ≡ looked
+  lookup-read = λ k. record {
+    refusal = parts .refusal k;
+    found = found-back _ (looked .found) (parts .found) k;
+    hop = parts .hop k;
+    length = parts .length k;
+    probes = parts .probes k;
+  }
+
+  -- Found is 1 or 0.
+  pub lookup-found : gateway-found answer ≡ one-if (looked .found)
+  lookup-found = parts .found
+
+  -- Every other bit of its number is zero.
+  pub lookup-zero-elsewhere : answer ≡ gateway-refusal answer * 2 ^ 48 + gateway-found answer * 2 ^ 40 + gateway-hop answer * 2 ^ 16 + gateway-length answer * 2 ^ 8 + gateway-probes answer
+  unfolding c-lookup answer-number
+  lookup-zero-elsewhere = given ∙ rw (parts .refusal, parts .found, parts .hop, parts .length, parts .probes)
+
+  -- Where it is refused, its number is the refusal alone.
+  pub lookup-refused : gateway-refusal answer ≢ 0 → answer ≡ gateway-refusal answer * 2 ^ 48
+  unfolding c-lookup answer-number refused one-if
+  lookup-refused bad =
+      given ∙ rw (parts .refusal, demand-1.lookup-refused t (lent counters (words bytes)) address (λ good. bad (parts .refusal ∙ good))) (omega arith)
+
+-- Over the memory of an update:
+module _ {t : Settings} {m : Memory} {address answer : ℕ} (asked : LookedUp t m address answer) where
+  -- the whole number, and what is read of it.
+  pub looked-up : answer ≡ answer-number (lookup t m address)
+  unfolding c-lookup
+  looked-up = rw (words-again (m .slots)) at (asked .crossed)
+
+  pub answer-read : read-answer answer ≡ lookup t m address
+  answer-read = rw (words-again (m .slots)) at (lookup-read t (m .counters) (bytes-of (m .slots)) address answer (asked .crossed))
+
+  pub found-read : gateway-found answer ≡ one-if (lookup t m address .found)
+  found-read = rw (words-again (m .slots)) at (lookup-found t (m .counters) (bytes-of (m .slots)) address answer (asked .crossed))
+
+-- Two tables that answer an address alike give the same number.
+pub equal-lookups : {t : Settings} {m other : Memory} {address answer new-answer : ℕ} → LookedUp t m address answer → LookedUp t other address new-answer
+    → lookup t other address ≡ lookup t m address → new-answer ≡ answer
+equal-lookups asked new-asked same = looked-up new-asked ∙ ap answer-number same ∙ sym (looked-up asked)
+
+-- ---- Match vectors
+
+vector-small : (t : Settings) (m : Memory) (address : ℕ) → match-vector t m address .vector < 2 ^ 32
+unfolding match-vector vector-of
+vector-small t m address = go (eqb (memory-refusal t m 0) 0)
+  where
+    go : (b : Bool) → cond b (vector-of t (m .counters) address) 0 < 2 ^ 32
+    go true = bits-lt _ 32
+    go false = omega arith
+
+module _ (t : Settings) (counters bytes : List ℕ) (address answer : ℕ) (given : answer ≡ c-match-vector t counters bytes address) where
+  refusal-part : gateway-refusal answer ≡ match-vector t (lent counters (words bytes)) address .refusal
+  unfolding gateway-refusal c-match-vector vector-number
+  refusal-part = let small = vector-small t (lent counters (words bytes)) address in omega arith
+
+  vector-part : gateway-vector answer ≡ match-vector t (lent counters (words bytes)) address .vector
+  unfolding gateway-vector c-match-vector vector-number
+  vector-part = let small = vector-small t (lent counters (words bytes)) address in omega arith
+
+  -- What is read of a match vector is that of the rules.
+  pub vector-read : read-vector answer ≡ match-vector t (lent counters (words bytes)) address
+  vector-read = λ k. record { refusal = refusal-part k; vector = vector-part k }
+
+  -- Every other bit of its number is zero.
+  pub vector-zero-elsewhere : answer ≡ gateway-refusal answer * 2 ^ 48 + gateway-vector answer
+  unfolding c-match-vector vector-number
+  vector-zero-elsewhere = given ∙ rw (refusal-part, vector-part)
+
+  -- Where it is refused, its number is the refusal alone.
+  pub vector-refused : gateway-refusal answer ≢ 0 → answer ≡ gateway-refusal answer * 2 ^ 48
+  vector-refused bad =
+      let zero-given = demand-1.vector-refused t (lent counters (words bytes)) address (λ good. bad (refusal-part ∙ good)) in
+      omega (arith, vector-zero-elsewhere, vector-part)
+
+module _ {t : Settings} {m : Memory} {address answer : ℕ} (asked : Matched t m address answer) where
+  pub matched : answer ≡ vector-number (match-vector t m address)
+  unfolding c-match-vector
+  matched = rw (words-again (m .slots)) at (asked .crossed)
+
+  pub claims-read : read-vector answer ≡ match-vector t m address
+  claims-read = rw (words-again (m .slots)) at (vector-read t (m .counters) (bytes-of (m .slots)) address answer (asked .crossed))
+
+pub equal-vectors : {t : Settings} {m other : Memory} {address answer new-answer : ℕ} → Matched t m address answer → Matched t other address new-answer
+    → match-vector t other address ≡ match-vector t m address → new-answer ≡ answer
+equal-vectors asked new-asked same = matched new-asked ∙ ap vector-number same ∙ sym (matched asked)
+
+-- ---- Messages
+
+-- the parts of a report's number do not meet
+module _ (refusal refused accepted : ℕ) (few : refused < 2 ^ 12) (few-accepted : accepted < 2 ^ 12) where
+  abbrev whole : ℕ
+  whole = refusal * 2 ^ 48 + refused * 2 ^ 12 + accepted
+
+  reads-refused : whole / 2 ^ 12 % 2 ^ 12 ≡ refused
+  reads-refused =
+      let above : whole / 2 ^ 12 ≡ refusal * 2 ^ 24 * 2 ^ 12 + refused = omega arith in
+      rw above (low (refusal * 2 ^ 24) 12 few)
+
+  reads-report : read-report whole ≡ record { refusal = refusal; accepted = accepted; refused = refused }
+  unfolding gateway-refusal gateway-accepted gateway-refused
+  reads-report =
+      let first : gateway-refusal whole ≡ refusal = omega arith in
+      let last : gateway-accepted whole ≡ accepted = omega arith in
+      λ k. record { refusal = first k; accepted = last k; refused = reads-refused k }
+
+module _ {t : Settings} {m m' : Memory} {message hops : List ℕ} {answer : ℕ} (sent : Sent t m message hops answer m') where
+  report-read : read-report answer ≡ apply-message t m message hops .report
+  unfolding report-number
+  report-read =
+      let r = apply-message t m message hops .report in
+      let fit = counts-fit t m message hops in
+      rw (sent .crossed .number) (reads-report (r .refusal) (r .refused) (r .accepted) (fit .1) (fit .0))
+
+  -- What is read of a message is its report, and it leaves what the rules leave.
+  pub message-read : apply-message t m message hops ≡ record { report = read-report answer; memory = m' }
+  message-read = ap₂ (λ r left. record { report = r; memory = left }) (sym report-read) (sym (sent .crossed .memory))
+
+  -- Every other bit of its number is zero.
+  pub message-zero-elsewhere : answer ≡ gateway-refusal answer * 2 ^ 48 + gateway-refused answer * 2 ^ 12 + gateway-accepted answer
+  unfolding report-number
+  message-zero-elsewhere = sent .crossed .number ∙ ap report-number (sym report-read)
+
+  -- Where it is refused, its number is the refusal alone.
+  pub message-refused : gateway-refusal answer ≢ 0 → answer ≡ gateway-refusal answer * 2 ^ 48
+  unfolding report-number refused-message
+  message-refused bad =
+      let its = ap (λ r. r .refusal) report-read in
+      sent .crossed .number ∙ rw (its, refused-unchanged t m message hops (λ good. bad (its ∙ good))) (omega arith)
+
+-- Two tables that give a message the same report give the same number.
+pub equal-messages : {t : Settings} {m m' other other' : Memory} {message hops : List ℕ} {answer new-answer : ℕ} → Sent t m message hops answer m' → Sent t other message hops new-answer other'
+    → apply-message t other message hops .report ≡ apply-message t m message hops .report → new-answer ≡ answer
+equal-messages sent new-sent same = new-sent .crossed .number ∙ ap report-number same ∙ sym (sent .crossed .number)

@@ -1,43 +1,54 @@
--- The calls that a C program made, as it sees them: the arguments that it gave, the number that came back, and counters
--- and slots afterwards, or the results of a list of addresses. A number of type uint32_t is below 2^32.
+-- The calls that a C program made, as it sees them: the arguments that it gave, the number that came back, and counters and
+-- slots afterwards, or the bytes that were written. A number of type uint32_t is below 2^32, and a byte below 256.
 use Prim.Native.Nat.{ℕ, _*_, _%_, _^_, _<_}
 use mathlib.Core.Path.{_≡_}
 use mathlib.Core.Bool.{true, not, _||_}
-use mathlib.Core.List.{List, [], _∷_, _++_, map}
+use mathlib.Core.List.{List, [], _∷_, _++_}
 use lib.Dec.{eqb}
 use lib.ListN.{length}
 use lib.Pow.{areBytes}
 use Rattle.rules.specs.declared.Settings.{Settings}
-use Rattle.rules.specs.Table.{lent, words, c-lookup, c-match-vector, bytes-of, c-lookup-list}
-use Rattle.gateway.specs.Crossing.{Crossed, ListCrossed}
-use Rattle.promises.specs.History.{Call, Clear, word-sized, act}
+use Rattle.rules.specs.Table.{Memory, lent, words, c-lookup, c-match-vector, bytes-of, c-lookup-list}
+use Rattle.rules.specs.Calls.{Call, word-sized, act, run}
+use Rattle.message_format.specs.Reading.{apply-message}
+use Rattle.message_format.specs.Writing.{write-withdrawal}
+use Rattle.gateway.specs.Crossing.{Crossed, ListCrossed, MessageCrossed}
 use Rattle.promises.specs.Demands.{Condition, _when_, memory-conditions}
-use Rattle.promises.specs.Calls.{Made}
+use Rattle.message_promises.specs.Heard.{heard-calls}
 use Rattle.c_promises.specs.Numbers.{gateway-refusal}
 
--- an update of include/gateway.h: counters and slots are the lists at entry, those with a stroke the lists at exit, and
--- what crossed back is what its contract ensures
-pub record Updated (t : Settings) (call : Call) (counters slots : List ℕ) (answer : ℕ) (counters' slots' : List ℕ) : Type 0 where
+-- ---- Single calls of include/gateway.h
+
+-- an update: m is the memory at entry and m' that at exit, and what crossed back is what the contract ensures
+pub record Updated (t : Settings) (call : Call) (m : Memory) (answer : ℕ) (m' : Memory) : Type 0 where
   pub word : word-sized call ≡ true
-  pub crossed : Crossed (act t call (lent counters slots)) answer counters' slots'
+  pub crossed : Crossed (act t call m) answer (m' .counters) (m' .slots)
 
--- a lookup over the lists of an update, the slots lent as the bytes that x86-64 has of them in memory
-pub record LookedUp (t : Settings) (counters slots : List ℕ) (address answer : ℕ) : Type 0 where
+-- a lookup over the memory of an update, the slots lent as the bytes that x86-64 has of them
+pub record LookedUp (t : Settings) (m : Memory) (address answer : ℕ) : Type 0 where
   pub word : address < 2 ^ 32
-  pub crossed : answer ≡ c-lookup t counters (bytes-of slots) address
+  pub crossed : answer ≡ c-lookup t (m .counters) (bytes-of (m .slots)) address
 
--- and a match vector
-pub record Matched (t : Settings) (counters slots : List ℕ) (address answer : ℕ) : Type 0 where
+-- a match vector
+pub record Matched (t : Settings) (m : Memory) (address answer : ℕ) : Type 0 where
   pub word : address < 2 ^ 32
-  pub crossed : answer ≡ c-match-vector t counters (bytes-of slots) address
+  pub crossed : answer ≡ c-match-vector t (m .counters) (bytes-of (m .slots)) address
 
--- a list of addresses over the lists of an update: addresses and results are bytes too, and the results with a stroke
--- those at exit
-pub record ListedUp (t : Settings) (counters slots addresses : List ℕ) (answer : ℕ) (results results' : List ℕ) : Type 0 where
+-- a list of addresses: addresses and results are bytes too, and results' are those at exit
+pub record ListedUp (t : Settings) (m : Memory) (addresses results : List ℕ) (answer : ℕ) (results' : List ℕ) : Type 0 where
   pub bytes : areBytes addresses ≡ true
-  pub crossed : ListCrossed (c-lookup-list t counters (bytes-of slots) addresses results) answer results'
+  pub crossed : ListCrossed (c-lookup-list t (m .counters) (bytes-of (m .slots)) addresses results) answer results'
 
--- what such a list looks at, over any bytes: settings and sizes as every call, and then that there are four bytes of
+-- a message
+pub record Sent (t : Settings) (m : Memory) (message hops : List ℕ) (answer : ℕ) (m' : Memory) : Type 0 where
+  pub bytes : areBytes message ≡ true
+  pub crossed : MessageCrossed (apply-message t m message hops) answer (m' .counters) (m' .slots)
+
+-- a withdrawal written into room, which is room' at exit
+abbrev pub Wrote : (p L : ℕ) (room : List ℕ) (answer : ℕ) (room' : List ℕ) → Type 0
+Wrote p L room answer room' = ListCrossed (write-withdrawal p L room) answer room'
+
+-- what a list of addresses looks at, over any bytes: settings and sizes as every call, and then that there are four bytes of
 -- results to each byte of the addresses, and these are whole words
 unfoldable pub list-conditions : Settings → (counters slots addresses results : List ℕ) → List Condition
 list-conditions t counters slots addresses results =
@@ -45,37 +56,13 @@ list-conditions t counters slots addresses results =
     ++ (18 when not (eqb (length results) (4 * length addresses)) || not (eqb (length addresses % 4) 0))
     ∷ []
 
--- two tables that answer every list alike: over as many bytes of results they give the same number and, where it is
--- accepted, leave the same bytes
-abbrev pub SameLists : Settings → (counters slots new-counters new-slots : List ℕ) → Type 0
-SameLists t counters slots new-counters new-slots =
-    (addresses results : List ℕ) (answer : ℕ) (results' : List ℕ) → ListedUp t counters slots addresses answer results results'
-    → (new-results : List ℕ) (new-answer : ℕ) (new-results' : List ℕ) → ListedUp t new-counters new-slots addresses new-answer new-results new-results'
-    → length new-results ≡ length results → (new-answer ≡ answer) × (gateway-refusal answer ≡ 0 → new-results' ≡ results')
+-- ---- What a C program did
 
--- the updates of a log were made one after the other, each over the lists as the one before had left them. A list of
--- addresses may be looked up anywhere between them: it changes nothing and is not noted in the log.
-pub data Ran (t : Settings) : (counters slots : List ℕ) (log : List Made) (counters' slots' : List ℕ) → Type 0 where
-  Stop : {counters slots : List ℕ} → Ran t counters slots [] counters slots
-  Step : (call : Call) (answer : ℕ) {counters slots counters' slots' last-counters last-slots : List ℕ} {log : List Made}
-      → Updated t call counters slots answer counters' slots' → Ran t counters' slots' log last-counters last-slots
-      → Ran t counters slots (record { call = call; given = answer } ∷ log) last-counters last-slots
-  Ask : (addresses results : List ℕ) (answer : ℕ) (results' : List ℕ) {counters slots last-counters last-slots : List ℕ} {log : List Made}
-      → ListedUp t counters slots addresses answer results results' → Ran t counters slots log last-counters last-slots
-      → Ran t counters slots log last-counters last-slots
-
--- the log with each answer's refusal alone, by which the routes are kept on paper
-unfoldable pub told : List Made → List Made
-told log = map (λ made. record { call = made .call; given = gateway-refusal (made .given) }) log
-
--- a table that was cleared, over lists that held anything, and served the updates of a log: these are its counters and
--- slots now
-pub record Served (t : Settings) (log : List Made) (counters slots : List ℕ) : Type 0 where
-  pub counters-before : List ℕ
-  pub slots-before : List ℕ
-  pub answer : ℕ
-  pub counters-cleared : List ℕ
-  pub slots-cleared : List ℕ
-  pub cleared : Updated t Clear counters-before slots-before answer counters-cleared slots-cleared
-  pub accepted : gateway-refusal answer ≡ 0
-  pub ran : Ran t counters-cleared slots-cleared log counters slots
+-- One thing that a C program can do with a table under settings t: an update, which is a single call with the refusal that
+-- the header reads; a list of addresses, which is none and changes nothing; or a message, which is its single calls, or none
+-- where it was refused.
+pub data Did (t : Settings) : Memory → List Call → List ℕ → Memory → Type 0 where
+  DidUpdate : {call : Call} {m m' : Memory} {answer : ℕ} → Updated t call m answer m' → Did t m (call ∷ []) (gateway-refusal answer ∷ []) m'
+  DidList : {m : Memory} {addresses results results' : List ℕ} {answer : ℕ} → ListedUp t m addresses results answer results' → Did t m [] [] m
+  DidMessage : {m m' : Memory} {message hops : List ℕ} {answer : ℕ} → Sent t m message hops answer m'
+      → Did t m (heard-calls message hops (gateway-refusal answer)) (run t m (heard-calls message hops (gateway-refusal answer)) .answers) m'

@@ -1,10 +1,14 @@
--- The number that a call gives back, taken apart as include/gateway.h does it: there a shift to the right by n is the
--- division by 2^n, and n low bits are kept by the remainder by 2^n.
+-- What a C program reads: the number that a call gives back, taken apart as include/gateway.h does it, and the bytes of a
+-- list's results. A shift to the right by n is the division by 2^n, and n low bits are kept by the remainder by 2^n.
 use Prim.Native.Nat.{ℕ, _+_, _*_, _/_, _%_, _^_}
-use mathlib.Core.Path.{_≡_}
 use mathlib.Core.List.{List}
+use lib.Dec.{eqb}
 use lib.ListN.{getD}
-use Rattle.promises.specs.History.{Route}
+use Rattle.rules.specs.declared.Answer.{Answer}
+use Rattle.rules.specs.declared.Vector.{Vector}
+use Rattle.message_format.specs.declared.Report.{Report}
+
+-- ---- From a number
 
 -- gateway_refusal, of any call's answer
 unfoldable pub gateway-refusal : (answer : ℕ) → ℕ
@@ -30,30 +34,34 @@ gateway-probes answer = answer % 2 ^ 8
 unfoldable pub gateway-vector : (answer : ℕ) → ℕ
 gateway-vector answer = answer % 2 ^ 32
 
--- ---- What is read from a lookup's answer
+-- gateway_accepted, of a message's answer as the one that follows
+unfoldable pub gateway-accepted : (answer : ℕ) → ℕ
+gateway-accepted answer = answer % 2 ^ 12
 
--- it finds this route
-pub record Finds (answer : ℕ) (r : Route) : Type 0 where
-  pub refusal : gateway-refusal answer ≡ 0
-  pub found : gateway-found answer ≡ 1
-  pub hop : gateway-hop answer ≡ r .hop
-  pub length : gateway-length answer ≡ r .length
+-- gateway_refused
+unfoldable pub gateway-refused : (answer : ℕ) → ℕ
+gateway-refused answer = answer / 2 ^ 12 % 2 ^ 12
 
--- it says none
-pub record SaysNone (answer : ℕ) : Type 0 where
-  pub refusal : gateway-refusal answer ≡ 0
-  pub found : gateway-found answer ≡ 0
-  pub hop : gateway-hop answer ≡ 0
-  pub length : gateway-length answer ≡ 0
+-- what is so read of a lookup
+abbrev pub read-answer : (answer : ℕ) → Answer
+read-answer answer =
+    record {
+      refusal = gateway-refusal answer;
+      found = eqb (gateway-found answer) 1;
+      hop = gateway-hop answer;
+      length = gateway-length answer;
+      probes = gateway-probes answer;
+    }
 
--- it is another one's answer but, it may be, for its hop
-pub record SameButHop (answer other : ℕ) : Type 0 where
-  pub refusal : gateway-refusal answer ≡ gateway-refusal other
-  pub found : gateway-found answer ≡ gateway-found other
-  pub length : gateway-length answer ≡ gateway-length other
-  pub probes : gateway-probes answer ≡ gateway-probes other
+-- of a match vector
+abbrev pub read-vector : (answer : ℕ) → Vector
+read-vector answer = record { refusal = gateway-refusal answer; vector = gateway-vector answer }
 
--- ---- What is read from the bytes of a list
+-- and of a message
+abbrev pub read-report : (answer : ℕ) → Report
+read-report answer = record { refusal = gateway-refusal answer; accepted = gateway-accepted answer; refused = gateway-refused answer }
+
+-- ---- From the bytes of a list
 
 -- the word from a byte on, as x86-64 has it in memory: the low byte first
 unfoldable pub word-at : (bytes : List ℕ) (from : ℕ) → ℕ
@@ -79,21 +87,13 @@ length-at results i = word-at results (16 * i + 8)
 unfoldable pub probes-at : (results : List ℕ) (i : ℕ) → ℕ
 probes-at results i = word-at results (16 * i + 12)
 
--- result i is what is read from this number of a lookup
-pub record SaysAt (results : List ℕ) (i answer : ℕ) : Type 0 where
-  pub found : found-at results i ≡ gateway-found answer
-  pub hop : hop-at results i ≡ gateway-hop answer
-  pub length : length-at results i ≡ gateway-length answer
-  pub probes : probes-at results i ≡ gateway-probes answer
-
--- it finds this route
-pub record FindsAt (results : List ℕ) (i : ℕ) (r : Route) : Type 0 where
-  pub found : found-at results i ≡ 1
-  pub hop : hop-at results i ≡ r .hop
-  pub length : length-at results i ≡ r .length
-
--- it says none
-pub record SaysNoneAt (results : List ℕ) (i : ℕ) : Type 0 where
-  pub found : found-at results i ≡ 0
-  pub hop : hop-at results i ≡ 0
-  pub length : length-at results i ≡ 0
+-- what is so read of result i; it carries no refusal
+abbrev pub read-result : (results : List ℕ) (i : ℕ) → Answer
+read-result results i =
+    record {
+      refusal = 0;
+      found = eqb (found-at results i) 1;
+      hop = hop-at results i;
+      length = length-at results i;
+      probes = probes-at results i;
+    }

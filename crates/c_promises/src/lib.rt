@@ -1,3 +1,4 @@
-// What is promised to a C program of the calls of include/gateway.h on a table. There is no code here:
-// the numbers and bytes that cross, taken apart as the header does, and runs of exported calls are defined
-// in specs/, and each demand is a theorem in proofs/Promises.antt or, of a list, in proofs/Lists.antt.
+// What is promised to a C program of the calls of include/gateway.h. There is no code here: specs/ has
+// what the header reads from the numbers and bytes that cross, and what a program can do; proofs/Seat.antt
+// shows that what it did after an accepted clear is a history, and proofs/Unpacking.antt and
+// proofs/Lists.antt that what it reads is what the rules answer, so that all of crates/promises holds of it.
