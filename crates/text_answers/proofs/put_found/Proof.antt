@@ -3,7 +3,7 @@ use native.Mathlib.Omega.{arith}
 use borrow.Author.Needs.{needs}
 use borrow.Author.Tests.{eq-eqb, ne-eqb}
 use lib.ListN.{length-append}
-use Rattle.text_answers.specs.Texts.{hit, miss, found}
+use Rattle.text_answers.specs.Texts.{hit, miss, lookup-text}
 use Rattle.text_answers.proofs.Puts.{put-both}
 use Rattle.text_answers.proofs.put_found.Statement.{statement}
 use Rattle.text_answers.proofs.put_found.Tie as tie
@@ -15,7 +15,7 @@ same-length : tie.Need-same-length
 same-length c = search needs
 
 returns : tie.Need-returns
-unfolding found
+unfolding lookup-text
 returns c = rw (ne-eqb _ _ (c .before .before .before .before .if1 .taken)) (c .before .before .put-outcome .ensures)
 
 put-number-requires : tie.Need-put-number-requires
@@ -49,7 +49,7 @@ same-length-2 : tie.Need-same-length-2
 same-length-2 c = search needs
 
 returns-2 : tie.Need-returns-2
-unfolding found hit
+unfolding lookup-text hit
 returns-2 c =
     let e = c .before .before in
     let probes = e .before .before .before .before .before in
@@ -90,7 +90,7 @@ same-length-3 : tie.Need-same-length-3
 same-length-3 c = search needs
 
 returns-3 : tie.Need-returns-3
-unfolding found miss
+unfolding lookup-text miss
 returns-3 c =
     let e = c .before .before in
     let probes = e .before .before .before .before .before in

@@ -3,7 +3,7 @@ use native.Mathlib.Omega.{arith}
 use borrow.Author.Needs.{needs}
 use borrow.Author.Tests.{eq-eqb, ne-eqb}
 use lib.ListN.{length-append}
-use Rattle.text_answers.specs.Texts.{refused, outcome}
+use Rattle.text_answers.specs.Texts.{refused-text, update-text}
 use Rattle.text_answers.proofs.Puts.{put-both}
 use Rattle.text_answers.proofs.put_outcome.Statement.{statement}
 use Rattle.text_answers.proofs.put_outcome.Tie as tie
@@ -18,7 +18,7 @@ same-length : tie.Need-same-length
 same-length c = search needs
 
 returns : tie.Need-returns
-unfolding outcome
+unfolding update-text
 returns c = rw (eq-eqb _ _ (c .before .before .before .before .before .if1 .taken)) (record { put = c .before .before .put .ensures; short = omega arith })
 
 slice-aggregate-put-2 : tie.Need-slice-aggregate-put-2
@@ -40,7 +40,7 @@ same-length-2 : tie.Need-same-length-2
 same-length-2 c = search needs
 
 returns-2 : tie.Need-returns-2
-unfolding outcome refused
+unfolding update-text refused-text
 returns-2 c =
     let number = c .before .before .before .before .before .before .before .put-number .ensures in
     rw (ne-eqb _ _ (c .before .before .before .before .before .before .before .before .before .before .before .before .before .before .if1 .left))

@@ -1,7 +1,7 @@
 -- `lines::answer_into` meets its contract: what the line was read as says which call replies, and that call's contract says how.
 use mathlib.Core.Path.{refl, sym, _∙_}
 use borrow.Author.Needs.{needs}
-use Rattle.text_lines.specs.Lines.{reply, answer}
+use Rattle.text_lines.specs.Lines.{reply, line-reply}
 use Rattle.text_lines.proofs.Replies.{by-update, by-lookup}
 use Rattle.text_lines.proofs.answer_into.Statement.{statement}
 use Rattle.text_lines.proofs.answer_into.Tie as tie
@@ -61,7 +61,7 @@ same-length-3 : tie.Need-same-length-3
 same-length-3 c = search needs
 
 returns : tie.Need-returns
-unfolding answer reply
+unfolding line-reply reply
 returns c =
     let call = c .before .before .before .before .before .before .before .before in
     let told = call .before .before .before .before in
@@ -78,7 +78,7 @@ same-length-6 : tie.Need-same-length-6
 same-length-6 c = search needs
 
 returns-2 : tie.Need-returns-2
-unfolding answer reply
+unfolding line-reply reply
 returns-2 c =
     let call = c .before .before .before .before .before .before .before .before in
     let told = call .before .before .before .before in
@@ -95,7 +95,7 @@ same-length-9 : tie.Need-same-length-9
 same-length-9 c = search needs
 
 returns-3 : tie.Need-returns-3
-unfolding answer reply
+unfolding line-reply reply
 returns-3 c =
     let call = c .before .before .before .before .before .before .before .before in
     let told = call .before .before .before .before in
@@ -112,7 +112,7 @@ same-length-12 : tie.Need-same-length-12
 same-length-12 c = search needs
 
 returns-4 : tie.Need-returns-4
-unfolding answer reply
+unfolding line-reply reply
 returns-4 c =
     let call = c .before .before .before .before in
     let told = call .before .before .before .before in
@@ -123,7 +123,7 @@ same-length-13 : tie.Need-same-length-13
 same-length-13 c = search needs
 
 returns-5 : tie.Need-returns-5
-unfolding answer reply
+unfolding line-reply reply
 returns-5 c =
     let told = c .before .before .before .before in
     rw (sym (told .before .before .read-request .ensures) ∙ told .enum-told .given .1)

@@ -4,7 +4,7 @@ use native.Mathlib.Omega.{arith}
 use borrow.Author.Needs.{needs}
 use borrow.Author.Tests.{leb-true}
 use Rattle.rules.proofs.Told.{told-false, told-true}
-use Rattle.text_lines.specs.Lines.{fits, answer-line}
+use Rattle.text_lines.specs.Lines.{answer-fits, answer-line}
 use Rattle.text_lines.proofs.answer_line.Statement.{statement}
 use Rattle.text_lines.proofs.answer_line.Tie as tie
 
@@ -27,7 +27,7 @@ returns c =
     })
 
 answer-into-requires : tie.Need-answer-into-requires
-unfolding fits
+unfolding answer-fits
 answer-into-requires c κs =
     let test = c .before .before .before in
     leb-true _ _ (told-true (test .before .has-room-at .ensures) (test .if1 .left))

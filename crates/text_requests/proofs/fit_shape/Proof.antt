@@ -5,19 +5,19 @@ use native.Mathlib.Omega.{arith}
 use borrow.Author.Needs.{needs}
 use borrow.Author.Tests.{eq-eqb, ne-eqb}
 use lib.ListN.{length, drop}
-use Rattle.text_requests.specs.Shapes.{no-numbers, items, fit}
+use Rattle.text_requests.specs.Shapes.{no-numbers, items, fit-shape}
 use Rattle.text_requests.proofs.Items.{items-more, items-end}
 use Rattle.text_requests.proofs.fit_shape.Statement.{statement}
 use Rattle.text_requests.proofs.fit_shape.Tie as tie
 
 abbrev Inv-loop : tie.InvT-loop
-Inv-loop shape line numbers₀ at₀ i₀ numbers at i = (i ≤ length shape) × (fit shape line ≡ items (drop i shape) line at numbers)
+Inv-loop shape line numbers₀ at₀ i₀ numbers at i = (i ≤ length shape) × (fit-shape shape line ≡ items (drop i shape) line at numbers)
 
 abbrev μ-loop : tie.MeasureT-loop
 μ-loop shape line numbers₀ at₀ i₀ numbers at i = length shape - i
 
 loop-holds : tie.Need-loop-holds Inv-loop μ-loop
-unfolding fit no-numbers
+unfolding fit-shape no-numbers
 loop-holds c = (omega arith, refl)
 
 shared-slice-read-item-at : tie.Need-shared-slice-read-item-at Inv-loop μ-loop

@@ -3,7 +3,7 @@ use mathlib.Core.Path.{sym, _∙_}
 use native.Mathlib.Omega.{arith}
 use borrow.Author.Needs.{needs}
 use borrow.Author.Tests.{eq-eqb, ne-eqb, lt-ltb, le-ltb}
-use Rattle.text_requests.specs.Shapes.{item, with-octet, with-length, with-hop}
+use Rattle.text_requests.specs.Shapes.{item, set-octet, set-length, set-hop}
 use Rattle.text_requests.proofs.Digits.{number-most}
 use Rattle.text_requests.proofs.item_at.Statement.{statement}
 use Rattle.text_requests.proofs.item_at.Tie as tie
@@ -26,13 +26,13 @@ enum-told : tie.Need-enum-told
 enum-told c = search needs
 
 returns : tie.Need-returns
-unfolding item with-octet with-length with-hop
+unfolding item set-octet set-length set-hop
 returns c =
     let told = sym (c .before .before .before .before .number-at .ensures) ∙ c .before .before .value .given .1 in
     simp (eq-eqb _ _ (c .before .before .before .before .before .if1 .taken), told)
 
 returns-2 : tie.Need-returns-2
-unfolding item with-octet with-length with-hop
+unfolding item set-octet set-length set-hop
 returns-2 c =
     let told = sym (c .before .before .number-at .ensures) ∙ c .enum-told .given .1 in
     simp (eq-eqb _ _ (c .before .before .before .if1 .taken), told)
@@ -47,13 +47,13 @@ enum-told-2 : tie.Need-enum-told-2
 enum-told-2 c = search needs
 
 returns-3 : tie.Need-returns-3
-unfolding item with-octet with-length with-hop
+unfolding item set-octet set-length set-hop
 returns-3 c =
     let told = sym (c .before .before .before .number-at2 .ensures) ∙ c .before .value2 .given .1 in
     simp (ne-eqb _ _ (c .before .before .before .before .before .if1 .left), eq-eqb _ _ (c .before .before .before .before .if2 .taken), told)
 
 returns-4 : tie.Need-returns-4
-unfolding item with-octet with-length with-hop
+unfolding item set-octet set-length set-hop
 returns-4 c =
     let told = sym (c .before .before .number-at2 .ensures) ∙ c .enum-told2 .given .1 in
     simp (ne-eqb _ _ (c .before .before .before .before .if1 .left), eq-eqb _ _ (c .before .before .before .if2 .taken), told)
@@ -68,13 +68,13 @@ enum-told-3 : tie.Need-enum-told-3
 enum-told-3 c = search needs
 
 returns-5 : tie.Need-returns-5
-unfolding item with-octet with-length with-hop
+unfolding item set-octet set-length set-hop
 returns-5 c =
     let told = sym (c .before .before .before .number-at3 .ensures) ∙ c .before .value3 .given .1 in
     simp (ne-eqb _ _ (c .before .before .before .before .before .before .if1 .left), ne-eqb _ _ (c .before .before .before .before .before .if2 .left), eq-eqb _ _ (c .before .before .before .before .if3 .taken), told)
 
 returns-6 : tie.Need-returns-6
-unfolding item with-octet with-length with-hop
+unfolding item set-octet set-length set-hop
 returns-6 c =
     let told = sym (c .before .before .number-at3 .ensures) ∙ c .enum-told3 .given .1 in
     simp (ne-eqb _ _ (c .before .before .before .before .before .if1 .left), ne-eqb _ _ (c .before .before .before .before .if2 .left), eq-eqb _ _ (c .before .before .before .if3 .taken), told)

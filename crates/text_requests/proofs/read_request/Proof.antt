@@ -3,20 +3,20 @@ use mathlib.Core.Path.{_≡_, sym, _∙_}
 use borrow.Author.Needs.{needs}
 use borrow.Author.Tests.{lt-ltb, le-ltb}
 use Rattle.text_requests.specs.declared.Fit.the-variants.{Other}
-use Rattle.text_requests.specs.Shapes.{fit, request, add-shape, drop-shape, move-shape, find-shape}
+use Rattle.text_requests.specs.Shapes.{fit-shape, request, add-shape, drop-shape, move-shape, find-shape}
 use Rattle.text_requests.proofs.read_request.Statement.{statement}
 use Rattle.text_requests.proofs.read_request.Tie as tie
 
-not-add : (c : tie.After-enum-told) → fit add-shape (c .before .before .before .before .before .before .args .line .now) ≡ Other
+not-add : (c : tie.After-enum-told) → fit-shape add-shape (c .before .before .before .before .before .before .args .line .now) ≡ Other
 not-add c = sym (c .before .before .fit-shape .ensures) ∙ c .enum-told .given .1
 
-not-drop : (c : tie.After-enum-told2) → fit drop-shape (c .before .before .before .before .before .before .before .before .before .before .args .line .now) ≡ Other
+not-drop : (c : tie.After-enum-told2) → fit-shape drop-shape (c .before .before .before .before .before .before .before .before .before .before .args .line .now) ≡ Other
 not-drop c = sym (c .before .before .fit-shape2 .ensures) ∙ c .enum-told2 .given .1
 
-not-move : (c : tie.After-enum-told3) → fit move-shape (c .before .before .before .before .before .before .before .before .before .before .before .before .before .before .args .line .now) ≡ Other
+not-move : (c : tie.After-enum-told3) → fit-shape move-shape (c .before .before .before .before .before .before .before .before .before .before .before .before .before .before .args .line .now) ≡ Other
 not-move c = sym (c .before .before .fit-shape3 .ensures) ∙ c .enum-told3 .given .1
 
-not-find : (c : tie.After-enum-told4) → fit find-shape (c .before .before .before .before .before .before .before .before .before .before .before .before .before .before .before .before .before .before .args .line .now) ≡ Other
+not-find : (c : tie.After-enum-told4) → fit-shape find-shape (c .before .before .before .before .before .before .before .before .before .before .before .before .before .before .before .before .before .before .args .line .now) ≡ Other
 not-find c = sym (c .before .before .fit-shape4 .ensures) ∙ c .enum-told4 .given .1
 
 returns : tie.Need-returns
