@@ -11,24 +11,16 @@ use lib.Dec.{ltb, eqb}
 use borrow.Author.Tests.{lt-ltb, le-leb, ltb-true, ltb-false, eqb-true}
 use Rattle.rules.specs.declared.Settings.{Settings}
 use Rattle.rules.specs.Tools.{within}
-use Rattle.text_spelling.specs.Spelling.{spelled, same-bytes}
+use Rattle.text_spelling.specs.Spelling.{spelled}
 use Rattle.text_requests.specs.declared.Request.{Request}
 use Rattle.text_requests.specs.declared.Request.the-variants.{Add, Drop, Move, Find, Unreadable}
 use Rattle.text_requests.specs.Shapes.{digit, digits, value}
-use Rattle.text_answers.specs.Texts.{last-digits, decimal, refused, outcome, hit, miss, unreadable}
+use Rattle.text_answers.specs.Texts.{last-digits, decimal, refused-text, update-text, hit, miss, unreadable}
 use Rattle.text_answers.proofs.Decimals.{decimal-first}
 use Rattle.promises.specs.History.{Route}
 use Rattle.promises.specs.Demands.{longest}
 use Rattle.text_promises.specs.Paper.{find-text, text-by}
-
--- ok is written to no refusal
-pub only-ok : (n : ℕ) → same-bytes (outcome n) (spelled "ok\n") ≡ eqb n 0
-unfolding outcome refused
-only-ok n = go (eqb n 0)
-  where
-    go : (b : Bool) → same-bytes (cond b (spelled "ok\n") (refused n)) (spelled "ok\n") ≡ b
-    go true = refl
-    go false = refl
+use Rattle.text_promises.specs.Typed.{number-told}
 
 abbrev first : (text : List ℕ) → ℕ
 first text = getD text 0 0
@@ -47,11 +39,11 @@ no-miss hop length probes many e = omega (arith, hit-first hop length probes, ap
 no-hit : (hop length probes : ℕ) → hit hop length probes ≡ unreadable → ⊥
 no-hit hop length probes e = omega (arith, hit-first hop length probes, ap first e)
 
-no-outcome : (n : ℕ) → outcome n ≡ unreadable → ⊥
-unfolding outcome refused
+no-outcome : (n : ℕ) → update-text n ≡ unreadable → ⊥
+unfolding update-text refused-text
 no-outcome n e = go (eqb n 0) (ap first e)
   where
-    go : (b : Bool) → first (cond b (spelled "ok\n") (refused n)) ≡ first unreadable → ⊥
+    go : (b : Bool) → first (cond b (spelled "ok\n") (refused-text n)) ≡ first unreadable → ⊥
     go true h = omega arith
     go false h = omega arith
 
@@ -118,13 +110,14 @@ pub miss-tells : (probes probes′ : ℕ) → miss probes ≡ miss probes′ →
 unfolding miss digit within
 miss-tells probes probes′ e = begins-tell probes probes′ 10 [] [] refl (ap (drop 5) e) .0
 
--- And the number of a refusal.
-pub outcome-tells : (n k : ℕ) → outcome n ≡ outcome k → n ≡ k
-unfolding outcome refused digit within
-outcome-tells n k e = go (eqb n 0) (eqb k 0) refl refl e
+-- And the number that an update is told.
+pub told-number : (n : ℕ) → number-told (update-text n) ≡ n
+unfolding number-told update-text refused-text digit within
+told-number n = go (eqb n 0) refl
   where
-    go : (a b : Bool) → eqb n 0 ≡ a → eqb k 0 ≡ b → cond a (spelled "ok\n") (refused n) ≡ cond b (spelled "ok\n") (refused k) → n ≡ k
-    go true true zero-n zero-k h = eqb-true n 0 zero-n ∙ sym (eqb-true k 0 zero-k)
-    go true false zero-n more-k h = absurd (omega (arith, ap first h))
-    go false true more-n zero-k h = absurd (omega (arith, ap first h))
-    go false false more-n more-k h = begins-tell n k 10 [] [] refl (ap (drop 8) h) .0
+    go : (b : Bool) → eqb n 0 ≡ b → number-told (cond b (spelled "ok\n") (refused-text n)) ≡ n
+    go true e = sym (eqb-true n 0 e)
+    go false e = number-read n 10 [] refl
+
+pub number-tells : (n k : ℕ) → update-text n ≡ update-text k → n ≡ k
+number-tells n k e = sym (told-number n) ∙ ap number-told e ∙ told-number k
