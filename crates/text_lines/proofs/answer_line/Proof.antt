@@ -8,12 +8,6 @@ use Rattle.text_lines.specs.Lines.{answer-fits, answer-line}
 use Rattle.text_lines.proofs.answer_line.Statement.{statement}
 use Rattle.text_lines.proofs.answer_line.Tie as tie
 
-has-room-at-requires : tie.Need-has-room-at-requires
-has-room-at-requires c κs = search needs
-
-same-length : tie.Need-same-length
-same-length c = search needs
-
 returns : tie.Need-returns
 unfolding answer-line
 returns c =
@@ -32,15 +26,6 @@ answer-into-requires c κs =
     let test = c .before .before .before in
     leb-true _ _ (told-true (test .before .has-room-at .ensures) (test .if1 .left))
 
-same-length-2 : tie.Need-same-length-2
-same-length-2 c = search needs
-
-same-length-3 : tie.Need-same-length-3
-same-length-3 c = search needs
-
-same-length-4 : tie.Need-same-length-4
-same-length-4 c = search needs
-
 returns-2 : tie.Need-returns-2
 unfolding answer-line
 returns-2 c =
@@ -53,11 +38,11 @@ pub answer-line-spec : {M : Type 1} → statement M
 answer-line-spec =
     tie.close
     (tie.spec
-    has-room-at-requires
-    same-length
+    (λ c κs. search needs)
+    (λ c. search needs)
     returns
     answer-into-requires
-    same-length-2
-    same-length-3
-    same-length-4
+    (λ c. search needs)
+    (λ c. search needs)
+    (λ c. search needs)
     returns-2)

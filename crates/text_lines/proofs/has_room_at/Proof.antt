@@ -15,9 +15,6 @@ returns c =
     let a = c .before .args in
     simp (lt-leb (a .at + 33) (length (a .out .now)) (omega arith))
 
-sub-result : tie.Need-sub-result
-sub-result c = search needs
-
 returns-2 : tie.Need-returns-2
 unfolding answer-fits
 returns-2 c =
@@ -25,4 +22,4 @@ returns-2 c =
     same-test 33 (length (a .out .now) - a .at) (a .at + 33) (length (a .out .now)) (λ h. omega arith) (λ h. omega arith)
 
 pub has-room-at-spec : {M : Type 1} → statement M
-has-room-at-spec = tie.close (tie.spec returns sub-result returns-2)
+has-room-at-spec = tie.close (tie.spec returns (λ c. search needs) returns-2)
