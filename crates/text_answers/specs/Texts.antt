@@ -28,17 +28,17 @@ unfoldable pub update-text : (refusal : ℕ) → List ℕ
 update-text refusal = cond (eqb refusal 0) (spelled "ok\n") (refused-text refusal)
 
 -- a route was found
-unfoldable pub hit : (hop length probes : ℕ) → List ℕ
-hit hop length probes = decimal hop ++ spelled " " ++ decimal length ++ spelled " " ++ decimal probes ++ spelled "\n"
+unfoldable pub route-text : (hop length probes : ℕ) → List ℕ
+route-text hop length probes = decimal hop ++ spelled " " ++ decimal length ++ spelled " " ++ decimal probes ++ spelled "\n"
 
 -- no route was found
-unfoldable pub miss : (probes : ℕ) → List ℕ
-miss probes = spelled "none " ++ decimal probes ++ spelled "\n"
+unfoldable pub none-text : (probes : ℕ) → List ℕ
+none-text probes = spelled "none " ++ decimal probes ++ spelled "\n"
 
 -- what a lookup answers
 unfoldable pub lookup-text : Answer → List ℕ
 lookup-text r =
-    cond (eqb (r .refusal) 0) (cond (r .found) (hit (r .hop) (r .length) (r .probes)) (miss (r .probes)))
+    cond (eqb (r .refusal) 0) (cond (r .found) (route-text (r .hop) (r .length) (r .probes)) (none-text (r .probes)))
     (update-text (r .refusal))
 
 -- what a line of another shape answers

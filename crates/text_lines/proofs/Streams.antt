@@ -11,7 +11,7 @@ use borrow.Author.Tests.{eq-eqb, ne-eqb, lt-ltb, le-ltb}
 use Rattle.rules.specs.declared.Settings.{Settings}
 use Rattle.rules.specs.Table.{Memory, lent}
 use Rattle.text_answers.proofs.Puts.{put-both}
-use Rattle.text_lines.specs.Lines.{line-reply, Stream, going, keep, end-line, take-byte, feed, not-refused, Answered, Lies}
+use Rattle.text_lines.specs.Lines.{line-reply, Stream, going, keep, end-line, take-byte, feed, not-refused, Replied, Lies}
 
 -- a chunk after a chunk is one longer chunk
 pub feed-both : (t : Settings) (s : Stream) (a b : List ℕ) → feed t s (a ++ b) ≡ feed t (feed t s a) b
@@ -37,7 +37,7 @@ lies-going refused m line out kept = record {
 
 module _ (t : Settings) {s : Stream} {m : Memory} {line before out : List ℕ} {count written : ℕ} (l : Lies (not-refused s) m line before out (record { refused = false; count = count; written = written })) where
   -- the line ends and is answered
-  pub lies-answered : {m′ : Memory} {out′ : List ℕ} {written′ : ℕ} → written + 33 ≤ length before → Answered (line-reply t m (take count line)) m′ out written out′ written′ → Lies (not-refused (end-line t s)) m′ line before out′ (record { refused = false; count = 0; written = written′ })
+  pub lies-answered : {m′ : Memory} {out′ : List ℕ} {written′ : ℕ} → written + 33 ≤ length before → Replied (line-reply t m (take count line)) m′ out written out′ written′ → Lies (not-refused (end-line t s)) m′ line before out′ (record { refused = false; count = 0; written = written′ })
   unfolding end-line
   lies-answered room a = record {
     refused-is = refl;
@@ -49,7 +49,7 @@ module _ (t : Settings) {s : Stream} {m : Memory} {line before out : List ℕ} {
   }
 
   -- the byte ends the line
-  pub lies-ended : {m′ : Memory} {out′ : List ℕ} {written′ b : ℕ} → b ≡ 10 → written + 33 ≤ length before → Answered (line-reply t m (take count line)) m′ out written out′ written′ → Lies (not-refused (take-byte t s b)) m′ line before out′ (record { refused = false; count = 0; written = written′ })
+  pub lies-ended : {m′ : Memory} {out′ : List ℕ} {written′ b : ℕ} → b ≡ 10 → written + 33 ≤ length before → Replied (line-reply t m (take count line)) m′ out written out′ written′ → Lies (not-refused (take-byte t s b)) m′ line before out′ (record { refused = false; count = 0; written = written′ })
   unfolding take-byte
   lies-ended e room a = rw (eq-eqb _ _ e) (lies-answered room a)
 

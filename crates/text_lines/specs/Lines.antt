@@ -142,14 +142,14 @@ finish-input t s out = if-room (roomy (s .line) (s .count) 1 out) (finish t s) s
 -- ---- What the calls leave in lent memory
 
 -- a reply of at most 33 bytes is put at a position, and the memory is left as it says
-pub record Answered (r : Reply) (memory : Memory) (before : List ℕ) (at : ℕ) (after : List ℕ) (next : ℕ) : Type 0 where
+pub record Replied (r : Reply) (memory : Memory) (before : List ℕ) (at : ℕ) (after : List ℕ) (next : ℕ) : Type 0 where
   pub memory-is : memory ≡ r .memory
   pub put : PutWithin 33 before at (r .text) after next
 
 -- what answering a line gives back and leaves
 pub record Told (x : Tried Reply) (memory : Memory) (before : List ℕ) (at : ℕ) (after : List ℕ) (next : Next) : Type 0 where
   pub refused-is : next .refused ≡ x .refused
-  pub answered : Answered (x .leaves) memory before at after (next .at)
+  pub replied : Replied (x .leaves) memory before at after (next .at)
 
 -- what `roomy` tests
 pub record Room (line : List ℕ) (kept ends : ℕ) (out : List ℕ) : Type 0 where

@@ -8,7 +8,7 @@ ghost use Prim.Native.Nat.{_+_, _≤_};
 ghost use mathlib.Core.Path.{_≡_};
 ghost use lib.ListN.{length};
 ghost use Rattle.rules.specs.Table.{lent};
-ghost use Rattle.text_lines.specs.Lines.{line-reply, going, feed, not-refused, answer-fits, roomy, answer-line, feed-chunk, finish-input, Answered, Told, Room, Lies};
+ghost use Rattle.text_lines.specs.Lines.{line-reply, going, feed, not-refused, answer-fits, roomy, answer-line, feed-chunk, finish-input, Replied, Told, Room, Lies};
 use rules::Settings;
 use text_answers::put_found;
 use text_answers::put_outcome;
@@ -63,7 +63,7 @@ fn answer_into(
     at: usize,
 ) -> usize
     requires { ⌜ at + 33 ≤ length (now out) ⌝ }
-    ensures { λ r. ⌜ Answered (line-reply settings (lent (now (counters .entry)) (now (slots .entry))) (now (line .entry))) (lent (now (counters .exit)) (now (slots .exit))) (now (out .entry)) at (now (out .exit)) r ⌝ }
+    ensures { λ r. ⌜ Replied (line-reply settings (lent (now (counters .entry)) (now (slots .entry))) (now (line .entry))) (lent (now (counters .exit)) (now (slots .exit))) (now (out .entry)) at (now (out .exit)) r ⌝ }
 {
     match read_request(line) {
         Request::Add {

@@ -13,7 +13,7 @@ use Rattle.rules.specs.Table.{Memory, lent}
 use Rattle.rules.specs.Calls.{Call, Clear, Add, Withdraw, word-sized, act}
 use Rattle.rules.proofs.Worked.{ip, T}
 use Rattle.text_spelling.specs.Spelling.{spelled}
-use Rattle.text_answers.specs.Texts.{update-text, hit, miss, lookup-text, unreadable}
+use Rattle.text_answers.specs.Texts.{update-text, route-text, none-text, lookup-text, unreadable}
 use Rattle.text_lines.specs.Lines.{updated, reply, line-reply, lines, input-of, keep, end-line, take-byte, feed, finish, roomy, feed-chunk, finish-input}
 use Rattle.promises.specs.History.{Route, stored, SingleCalls, History, Ran, Stop, Then}
 use Rattle.promises.specs.Demands.{Longest, probes-down-to, number-given}
@@ -96,7 +96,7 @@ module _ {t : Settings} {before : Memory} (worked : Worked t before) where
   lived : History t morning (0 ∷ 0 ∷ 0 ∷ []) m
   lived = rw (worked .accepted) at (lines-are-history begun typed)
 
-  longest-met : line-reply t m (spelled "find 10.2.2.3") .text ≡ hit 7 8 (probes-down-to t then (ip 10 2 2 3) 8)
+  longest-met : line-reply t m (spelled "find 10.2.2.3") .text ≡ route-text 7 8 (probes-down-to t then (ip 10 2 2 3) 8)
   unfolding paper-computing
   longest-met = longest-written lived (spelled "find 10.2.2.3") (ip 10 2 2 3) refl (route (ip 10 0 0 0) 8 7) (right (ip 10 2 2 3) then)
 
@@ -104,12 +104,12 @@ module _ {t : Settings} {before : Memory} (worked : Worked t before) where
   unfolding paper-computing
   default-best = right (ip 12 0 0 1) then
 
-  default-met : line-reply t m (spelled "find 12.0.0.1") .text ≡ hit 3 0 (probes-down-to t then (ip 12 0 0 1) 0)
+  default-met : line-reply t m (spelled "find 12.0.0.1") .text ≡ route-text 3 0 (probes-down-to t then (ip 12 0 0 1) 0)
   unfolding paper-computing
   default-met = default-written lived (spelled "find 12.0.0.1") (ip 12 0 0 1) refl (route 0 0 3) (default-best .stored) refl
       (λ q stands matching. omega (arith, default-best .longest q stands matching))
 
-  none-met : line-reply t empty (spelled "find 12.0.0.1") .text ≡ miss (probes-down-to t [] (ip 12 0 0 1) 0)
+  none-met : line-reply t empty (spelled "find 12.0.0.1") .text ≡ none-text (probes-down-to t [] (ip 12 0 0 1) 0)
   unfolding paper-computing
   none-met = none-written (lines-are-history begun Stop) (spelled "find 12.0.0.1") (ip 12 0 0 1) refl (right (ip 12 0 0 1) [])
 

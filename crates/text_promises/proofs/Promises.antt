@@ -19,7 +19,7 @@ use Rattle.text_requests.specs.declared.Request.{Request}
 use Rattle.text_requests.specs.declared.Request.the-variants.{Add, Drop, Move, Find, Unreadable}
 use Rattle.text_requests.specs.Shapes.{request}
 use Rattle.text_requests.proofs.Words.{request-words}
-use Rattle.text_answers.specs.Texts.{update-text, hit, miss, lookup-text, unreadable}
+use Rattle.text_answers.specs.Texts.{update-text, route-text, none-text, lookup-text, unreadable}
 use Rattle.text_lines.specs.Lines.{updated, reply, line-reply, lines, lines-text, going, stream-text, input-of}
 use Rattle.text_lines.proofs.Cuts.{begins, one-by-one}
 use Rattle.promises.specs.History.{Route, without, written, noted, on-paper, stored, SingleCalls, History, Ran}
@@ -31,7 +31,7 @@ use Rattle.promises.proofs.Promises.{finds-longest, says-none, stored-accepted,
 use Rattle.text_promises.specs.Paper.{calls-of, text-by, paper-answers}
 use Rattle.text_promises.specs.Typed.{number-told, numbers-told, Typed, Line}
 use Rattle.text_promises.specs.Streams.{Streamed}
-use Rattle.text_promises.proofs.Texts.{no-miss, only-unreadable, hit-tells, miss-tells, number-tells}
+use Rattle.text_promises.proofs.Texts.{route-not-none, only-unreadable, route-tells, none-tells, number-tells}
 use Rattle.text_promises.proofs.Histories.{line-made, text-on-paper, lines-on-paper}
 use Rattle.text_promises.proofs.Streams.{all-streamed}
 
@@ -44,9 +44,9 @@ lines-are-history {t} = seat-history single
     single m calls answers m′ (Line line) = line-made t m line
 
 -- an answer that finds a route is written as its hop, its length and the probes
-hit-written : {r : Route} {probes : ℕ} (a : Answer) → Finds a r → a .probes ≡ probes → lookup-text a ≡ hit (r .hop) (r .length) probes
+route-written : {r : Route} {probes : ℕ} (a : Answer) → Finds a r → a .probes ≡ probes → lookup-text a ≡ route-text (r .hop) (r .length) probes
 unfolding lookup-text
-hit-written a its counted = rw (its .refusal, its .found, its .hop, its .length, counted)
+route-written a its counted = rw (its .refusal, its .found, its .hop, its .length, counted)
 
 -- ---- After any history
 
@@ -120,38 +120,38 @@ module _ {t : Settings} {calls : List Call} {answers : List ℕ} {m : Memory} (h
 
     -- It is answered hop and length of the longest stored route that matches, with the probe count of demand 3.
     pub longest-written : (r : Route) → Longest address routes r
-        → line-reply t m line .text ≡ hit (r .hop) (r .length) (probes-down-to t routes address (r .length))
-    longest-written r best = let its = finds-longest history address word r best in told ∙ hit-written _ its (counted _ (its .length))
+        → line-reply t m line .text ≡ route-text (r .hop) (r .length) (probes-down-to t routes address (r .length))
+    longest-written r best = let its = finds-longest history address word r best in told ∙ route-written _ its (counted _ (its .length))
 
     -- The default is answered, with length 0, if no other route matches.
     pub default-written : (r : Route) → Stored r routes → r .length ≡ 0 → ((q : Route) → Stored q routes → matches address q ≡ true → q .length ≡ 0)
-        → line-reply t m line .text ≡ hit (r .hop) 0 (probes-down-to t routes address 0)
+        → line-reply t m line .text ≡ route-text (r .hop) 0 (probes-down-to t routes address 0)
     default-written r stands default no-other =
         longest-written r (default-longest (kept history) address word r stands default no-other)
-        ∙ ap (λ (L : ℕ). hit (r .hop) L (probes-down-to t routes address L)) default
+        ∙ ap (λ (L : ℕ). route-text (r .hop) L (probes-down-to t routes address L)) default
 
     -- None is answered, with its probe count, if no stored route matches.
-    pub none-written : NoMatch address routes → line-reply t m line .text ≡ miss (probes-down-to t routes address 0)
+    pub none-written : NoMatch address routes → line-reply t m line .text ≡ none-text (probes-down-to t routes address 0)
     unfolding lookup-text
     none-written no-match = let its = says-none history address word no-match in told ∙ rw (its .refusal, its .found, counted 0 (its .length))
 
     -- Three numbers are answered only for the longest stored match.
-    pub route-exactly : (hop length probes : ℕ) → line-reply t m line .text ≡ hit hop length probes
+    pub route-exactly : (hop length probes : ℕ) → line-reply t m line .text ≡ route-text hop length probes
         → (r : Route) × Longest address routes r × (hop ≡ r .hop) × (length ≡ r .length) × (probes ≡ probes-down-to t routes address (r .length))
     route-exactly hop length probes h = go (longest address routes) (right address routes)
       where
         go : (o : Option Route) → Right address routes o
             → (r : Route) × Longest address routes r × (hop ≡ r .hop) × (length ≡ r .length) × (probes ≡ probes-down-to t routes address (r .length))
-        go none no-match = absurd (no-miss _ _ _ _ (sym h ∙ none-written no-match))
-        go (some r) best = let tells = hit-tells _ _ _ _ _ _ (sym h ∙ longest-written r best) in (r, best, tells .0, tells .1, tells .2)
+        go none no-match = absurd (route-not-none _ _ _ _ (sym h ∙ none-written no-match))
+        go (some r) best = let tells = route-tells _ _ _ _ _ _ (sym h ∙ longest-written r best) in (r, best, tells .0, tells .1, tells .2)
 
     -- None is answered only where no stored route matches.
-    pub none-exactly : (probes : ℕ) → line-reply t m line .text ≡ miss probes → NoMatch address routes × (probes ≡ probes-down-to t routes address 0)
+    pub none-exactly : (probes : ℕ) → line-reply t m line .text ≡ none-text probes → NoMatch address routes × (probes ≡ probes-down-to t routes address 0)
     none-exactly probes h = go (longest address routes) (right address routes)
       where
         go : (o : Option Route) → Right address routes o → NoMatch address routes × (probes ≡ probes-down-to t routes address 0)
-        go none no-match = (no-match, miss-tells _ _ (sym h ∙ none-written no-match))
-        go (some r) best = absurd (no-miss _ _ _ _ (sym (longest-written r best) ∙ h))
+        go none no-match = (no-match, none-tells _ _ (sym h ∙ none-written no-match))
+        go (some r) best = absurd (route-not-none _ _ _ _ (sym (longest-written r best) ∙ h))
 
   -- A line that adds a stored route again, with a hop that is valid.
   module _ (line : List ℕ) (r : Route) (stands : Stored r routes) (hop : ℕ) (high : hop ≤ 65535) (asks : request line ≡ Add (r .prefix) (r .length) hop) where
@@ -170,13 +170,13 @@ module _ {t : Settings} {calls : List Call} {answers : List ℕ} {m : Memory} (h
 
     -- A find of an address of which the route is the longest match is then answered the new hop, and the probes as before.
     pub replacing-found : (next : List ℕ) (address : ℕ) → request next ≡ Find address → Longest address routes r
-        → line-reply t (line-reply t m line .memory) next .text ≡ hit hop (r .length) (probes-down-to t routes address (r .length))
+        → line-reply t (line-reply t m line .memory) next .text ≡ route-text hop (r .length) (probes-down-to t routes address (r .length))
     unfolding line-reply reply updated act
     replacing-found next address finds best =
         let word : address < 2 ^ 32 = rw finds at (request-words next) in
         let its = replaced-found history r stands hop high address word best in
         let same = replaced-lookups history r stands hop high address word in
-        rw (asks, finds) (hit-written _ its (same .probes ∙ probes-counted history address word ∙ ap (probes-down-to t routes address) (sym (same .length) ∙ its .length)))
+        rw (asks, finds) (route-written _ its (same .probes ∙ probes-counted history address word ∙ ap (probes-down-to t routes address) (sym (same .length) ∙ its .length)))
 
 -- ---- The program's own table
 

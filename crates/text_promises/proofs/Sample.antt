@@ -7,7 +7,7 @@ use mathlib.Core.List.{[]}
 use Rattle.text_spelling.specs.Spelling.{spelled, same-bytes}
 use Rattle.rules.proofs.Worked.{T}
 use Rattle.text_requests.specs.Shapes.{digit, front-digit, digits, value, begins-with-number, number-at, no-numbers, set-octet, set-length, set-hop, item, items, fit-shape, request}
-use Rattle.text_answers.specs.Texts.{last-digits, decimal, refused-text, update-text, hit, miss}
+use Rattle.text_answers.specs.Texts.{last-digits, decimal, refused-text, update-text, route-text, none-text}
 use Rattle.text_lines.specs.Lines.{lines-after, lines}
 use Rattle.rules.specs.Calls.{each}
 use Rattle.promises.specs.History.{about, without, with-hop, written, noted}
@@ -17,7 +17,7 @@ use Rattle.text_promises.specs.Paper.{calls-of, find-text, text-by, pape
 
 -- to unfold this is to unfold all that the paper computes with
 unfoldable pub paper-computing : ℕ
-unfolding showing digit front-digit digits value begins-with-number number-at no-numbers set-octet set-length set-hop item items fit-shape request last-digits decimal refused-text update-text hit miss lines-after lines calls-of find-text text-by paper-answers paper each noted written without with-hop about
+unfolding showing digit front-digit digits value begins-with-number number-at no-numbers set-octet set-length set-hop item items fit-shape request last-digits decimal refused-text update-text route-text none-text lines-after lines calls-of find-text text-by paper-answers paper each noted written without with-hop about
 paper-computing = 0
 
 -- an input is answered so, on paper, by a table with settings T that was cleared

@@ -15,7 +15,7 @@ use Rattle.text_spelling.specs.Spelling.{spelled}
 use Rattle.text_requests.specs.declared.Request.{Request}
 use Rattle.text_requests.specs.declared.Request.the-variants.{Add, Drop, Move, Find, Unreadable}
 use Rattle.text_requests.specs.Shapes.{digit, digits, value}
-use Rattle.text_answers.specs.Texts.{last-digits, decimal, refused-text, update-text, hit, miss, unreadable}
+use Rattle.text_answers.specs.Texts.{last-digits, decimal, refused-text, update-text, route-text, none-text, unreadable}
 use Rattle.text_answers.proofs.Decimals.{decimal-first}
 use Rattle.promises.specs.History.{Route}
 use Rattle.promises.specs.Demands.{longest}
@@ -26,38 +26,38 @@ abbrev first : (text : List ℕ) → ℕ
 first text = getD text 0 0
 
 -- a route begins with a digit
-hit-first : (hop length probes : ℕ) → first (hit hop length probes) < 58
-unfolding hit
-hit-first hop length probes = simp append-assoc (decimal-first hop _)
+route-first : (hop length probes : ℕ) → first (route-text hop length probes) < 58
+unfolding route-text
+route-first hop length probes = simp append-assoc (decimal-first hop _)
 
 -- none does not
-pub no-miss : (hop length probes many : ℕ) → hit hop length probes ≡ miss many → ⊥
-unfolding miss
-no-miss hop length probes many e = omega (arith, hit-first hop length probes, ap first e)
+pub route-not-none : (hop length probes many : ℕ) → route-text hop length probes ≡ none-text many → ⊥
+unfolding none-text
+route-not-none hop length probes many e = omega (arith, route-first hop length probes, ap first e)
 
 -- nor is any other text the one that is written to an unreadable line
-no-hit : (hop length probes : ℕ) → hit hop length probes ≡ unreadable → ⊥
-no-hit hop length probes e = omega (arith, hit-first hop length probes, ap first e)
+route-not-unreadable : (hop length probes : ℕ) → route-text hop length probes ≡ unreadable → ⊥
+route-not-unreadable hop length probes e = omega (arith, route-first hop length probes, ap first e)
 
-no-outcome : (n : ℕ) → update-text n ≡ unreadable → ⊥
+update-not-unreadable : (n : ℕ) → update-text n ≡ unreadable → ⊥
 unfolding update-text refused-text
-no-outcome n e = go (eqb n 0) (ap first e)
+update-not-unreadable n e = go (eqb n 0) (ap first e)
   where
     go : (b : Bool) → first (cond b (spelled "ok\n") (refused-text n)) ≡ first unreadable → ⊥
     go true h = omega arith
     go false h = omega arith
 
-no-find : (t : Settings) (routes : List Route) (address : ℕ) (o : Option Route) → find-text t routes address o ≡ unreadable → ⊥
-unfolding find-text miss
-no-find t routes address (some r) e = no-hit _ _ _ e
-no-find t routes address none e = omega (arith, ap first e)
+find-not-unreadable : (t : Settings) (routes : List Route) (address : ℕ) (o : Option Route) → find-text t routes address o ≡ unreadable → ⊥
+unfolding find-text none-text
+find-not-unreadable t routes address (some r) e = route-not-unreadable _ _ _ e
+find-not-unreadable t routes address none e = omega (arith, ap first e)
 
 pub only-unreadable : (t : Settings) (routes : List Route) (r : Request) → text-by t routes r ≡ unreadable → r ≡ Unreadable
 unfolding text-by
-only-unreadable t routes (Add p L hop) e = absurd (no-outcome _ e)
-only-unreadable t routes (Drop p L) e = absurd (no-outcome _ e)
-only-unreadable t routes (Move p L hop) e = absurd (no-outcome _ e)
-only-unreadable t routes (Find address) e = absurd (no-find t routes address (longest address routes) e)
+only-unreadable t routes (Add p L hop) e = absurd (update-not-unreadable _ e)
+only-unreadable t routes (Drop p L) e = absurd (update-not-unreadable _ e)
+only-unreadable t routes (Move p L hop) e = absurd (update-not-unreadable _ e)
+only-unreadable t routes (Find address) e = absurd (find-not-unreadable t routes address (longest address routes) e)
 only-unreadable t routes Unreadable e = refl
 
 -- ---- The numbers in a text
@@ -98,17 +98,17 @@ begins-tell n k b rest other e h =
     (same-number, ap (drop 1) (append-cancel-left (decimal k) (b ∷ rest) (b ∷ other) (rw same-number at h)))
 
 -- Two routes in one text are one: its hop, its length and its probes.
-pub hit-tells : (hop length probes hop′ length′ probes′ : ℕ) → hit hop length probes ≡ hit hop′ length′ probes′ → (hop ≡ hop′) × (length ≡ length′) × (probes ≡ probes′)
-unfolding hit digit within
-hit-tells hop length probes hop′ length′ probes′ e =
+pub route-tells : (hop length probes hop′ length′ probes′ : ℕ) → route-text hop length probes ≡ route-text hop′ length′ probes′ → (hop ≡ hop′) × (length ≡ length′) × (probes ≡ probes′)
+unfolding route-text digit within
+route-tells hop length probes hop′ length′ probes′ e =
     let its-hop = begins-tell hop hop′ 32 _ _ refl (simp append-assoc at e) in
     let its-length = begins-tell length length′ 32 _ _ refl (its-hop .1) in
     (its-hop .0, its-length .0, begins-tell probes probes′ 10 [] [] refl (its-length .1) .0)
 
 -- So is the probe count of none.
-pub miss-tells : (probes probes′ : ℕ) → miss probes ≡ miss probes′ → probes ≡ probes′
-unfolding miss digit within
-miss-tells probes probes′ e = begins-tell probes probes′ 10 [] [] refl (ap (drop 5) e) .0
+pub none-tells : (probes probes′ : ℕ) → none-text probes ≡ none-text probes′ → probes ≡ probes′
+unfolding none-text digit within
+none-tells probes probes′ e = begins-tell probes probes′ 10 [] [] refl (ap (drop 5) e) .0
 
 -- And the number that an update is told.
 pub told-number : (n : ℕ) → number-told (update-text n) ≡ n

@@ -7,7 +7,7 @@ use Rattle.rules.specs.Calls.{Call, Add as Call·Add, Withdraw, Change}
 use Rattle.text_requests.specs.declared.Request.{Request}
 use Rattle.text_requests.specs.declared.Request.the-variants.{Add, Drop, Move, Find, Unreadable}
 use Rattle.text_requests.specs.Shapes.{request}
-use Rattle.text_answers.specs.Texts.{update-text, hit, miss, unreadable}
+use Rattle.text_answers.specs.Texts.{update-text, route-text, none-text, unreadable}
 use Rattle.promises.specs.History.{Route}
 use Rattle.promises.specs.Demands.{number-given, probes-down-to, longest, paper}
 
@@ -21,8 +21,8 @@ calls-of Unreadable = []
 
 -- to find: hop and length of the longest match and the probes down to there, or none and all probes
 unfoldable pub find-text : Settings → List Route → (address : ℕ) → Option Route → List ℕ
-find-text t routes address (some r) = hit (r .hop) (r .length) (probes-down-to t routes address (r .length))
-find-text t routes address none = miss (probes-down-to t routes address 0)
+find-text t routes address (some r) = route-text (r .hop) (r .length) (probes-down-to t routes address (r .length))
+find-text t routes address none = none-text (probes-down-to t routes address 0)
 
 -- to any request: an update is told the number that the stored routes give it
 unfoldable pub text-by : Settings → List Route → Request → List ℕ

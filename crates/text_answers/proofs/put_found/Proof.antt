@@ -3,7 +3,7 @@ use native.Mathlib.Omega.{arith}
 use borrow.Author.Needs.{needs}
 use borrow.Author.Tests.{eq-eqb, ne-eqb}
 use lib.ListN.{length-append}
-use Rattle.text_answers.specs.Texts.{hit, miss, lookup-text}
+use Rattle.text_answers.specs.Texts.{route-text, none-text, lookup-text}
 use Rattle.text_answers.proofs.Puts.{put-both}
 use Rattle.text_answers.proofs.put_found.Statement.{statement}
 use Rattle.text_answers.proofs.put_found.Tie as tie
@@ -13,7 +13,7 @@ unfolding lookup-text
 returns c = rw (ne-eqb _ _ (c .before .before .before .before .if1 .taken)) (c .before .before .put-outcome .ensures)
 
 returns-2 : tie.Need-returns-2
-unfolding lookup-text hit
+unfolding lookup-text route-text
 returns-2 c =
     let e = c .before .before in
     let probes = e .before .before .before .before .before in
@@ -36,7 +36,7 @@ returns-2 c =
     })
 
 returns-3 : tie.Need-returns-3
-unfolding lookup-text miss
+unfolding lookup-text none-text
 returns-3 c =
     let e = c .before .before in
     let probes = e .before .before .before .before .before in

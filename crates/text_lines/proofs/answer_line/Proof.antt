@@ -14,7 +14,7 @@ returns c =
     rw (told-false (c .before .has-room-at .ensures) (c .if1 .taken))
     (record {
       refused-is = refl;
-      answered = record {
+      replied = record {
         memory-is = refl;
         put = record { put = record { holds = refl; end = omega arith }; short = omega arith };
       };
@@ -32,7 +32,7 @@ returns-2 c =
     let call = c .before .before .before .before .before .before in
     let test = call .before .before .before .before in
     rw (told-true (test .before .has-room-at .ensures) (test .if1 .left))
-    (record { refused-is = refl; answered = call .answer-into .ensures })
+    (record { refused-is = refl; replied = call .answer-into .ensures })
 
 pub answer-line-spec : {M : Type 1} → statement M
 answer-line-spec =
