@@ -45,6 +45,10 @@ decimal-fits (suc k) n h = by-size (ltb n 10) refl (λ lt. decimal-fits k (n / 1
         let rest = f (omega arith) in
         omega arith
 
+-- so a number of 32 bits has at most 9 before its last
+pub tenth-fits : (n : ℕ) → n < 2 ^ 32 → length (decimal (n / 10)) ≤ 9
+tenth-fits n h = decimal-fits 8 (n / 10) (omega arith)
+
 -- whatever stands after them, the digits come first
 digit-first : (many n d : ℕ) (rest : List ℕ) → d < 10 → getD (last-digits many n ++ (48 + d) ∷ rest) 0 0 < 58
 unfolding last-digits

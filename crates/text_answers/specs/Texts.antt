@@ -20,26 +20,26 @@ unfoldable pub decimal : (n : ℕ) → List ℕ
 decimal n = last-digits (suc n) n
 
 -- an update that is refused, with its number
-unfoldable pub refused : (number : ℕ) → List ℕ
-refused number = spelled "refused " ++ decimal number ++ spelled "\n"
+unfoldable pub refused-text : (number : ℕ) → List ℕ
+refused-text number = spelled "refused " ++ decimal number ++ spelled "\n"
 
 -- what an update answers by the number that it gave back
-unfoldable pub outcome : (refusal : ℕ) → List ℕ
-outcome refusal = cond (eqb refusal 0) (spelled "ok\n") (refused refusal)
+unfoldable pub update-text : (refusal : ℕ) → List ℕ
+update-text refusal = cond (eqb refusal 0) (spelled "ok\n") (refused-text refusal)
 
 -- a route was found
-unfoldable pub hit : (hop length probes : ℕ) → List ℕ
-hit hop length probes = decimal hop ++ spelled " " ++ decimal length ++ spelled " " ++ decimal probes ++ spelled "\n"
+unfoldable pub route-text : (hop length probes : ℕ) → List ℕ
+route-text hop length probes = decimal hop ++ spelled " " ++ decimal length ++ spelled " " ++ decimal probes ++ spelled "\n"
 
 -- no route was found
-unfoldable pub miss : (probes : ℕ) → List ℕ
-miss probes = spelled "none " ++ decimal probes ++ spelled "\n"
+unfoldable pub none-text : (probes : ℕ) → List ℕ
+none-text probes = spelled "none " ++ decimal probes ++ spelled "\n"
 
 -- what a lookup answers
-unfoldable pub found : Answer → List ℕ
-found r =
-    cond (eqb (r .refusal) 0) (cond (r .found) (hit (r .hop) (r .length) (r .probes)) (miss (r .probes)))
-    (outcome (r .refusal))
+unfoldable pub lookup-text : Answer → List ℕ
+lookup-text r =
+    cond (eqb (r .refusal) 0) (cond (r .found) (route-text (r .hop) (r .length) (r .probes)) (none-text (r .probes)))
+    (update-text (r .refusal))
 
 -- what a line of another shape answers
 abbrev pub unreadable : List ℕ

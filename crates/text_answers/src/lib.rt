@@ -2,7 +2,7 @@
 // where the next one goes. An answer is a line of at most 33 bytes, for which there must be room.
 ghost use Prim.Native.Nat.{_+_, _≤_};
 ghost use lib.ListN.{length};
-ghost use Rattle.text_answers.specs.Texts.{decimal, outcome, found, unreadable, Put, PutWithin};
+ghost use Rattle.text_answers.specs.Texts.{decimal, update-text, lookup-text, unreadable, Put, PutWithin};
 use rules::Answer;
 
 // Puts bytes at a position.
@@ -35,7 +35,7 @@ fn put_number(out: &mut [u8], at: usize, n: u32) -> usize
 // Puts what an update answers: ok, or the number of its refusal.
 pub fn put_outcome(out: &mut [u8], at: usize, refusal: u32) -> usize
     requires { ⌜ at + 33 ≤ length (now out) ⌝ }
-    ensures { λ r. ⌜ PutWithin 33 (now (out .entry)) at (outcome refusal) (now (out .exit)) r ⌝ }
+    ensures { λ r. ⌜ PutWithin 33 (now (out .entry)) at (update-text refusal) (now (out .exit)) r ⌝ }
 {
     if refusal == 0 {
         return put(out, at, b"ok\n");
@@ -48,7 +48,7 @@ pub fn put_outcome(out: &mut [u8], at: usize, refusal: u32) -> usize
 // Puts what a lookup answers: hop, length and probes, or none and its probes.
 pub fn put_found(out: &mut [u8], at: usize, answer: Answer) -> usize
     requires { ⌜ at + 33 ≤ length (now out) ⌝ }
-    ensures { λ r. ⌜ PutWithin 33 (now (out .entry)) at (found answer) (now (out .exit)) r ⌝ }
+    ensures { λ r. ⌜ PutWithin 33 (now (out .entry)) at (lookup-text answer) (now (out .exit)) r ⌝ }
 {
     if answer.refusal != 0 {
         return put_outcome(out, at, answer.refusal);

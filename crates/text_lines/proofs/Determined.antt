@@ -19,8 +19,8 @@ use Rattle.text_lines.proofs.finish_input.Reads as finish-input
 pub told-settled : {x : Tried Reply} {m m′ : Memory} {a b b′ : List ℕ} {i : ℕ} {n n′ : Next} → Told x m a i b n → Told x m′ a i b′ n′
     → (n ≡ n′) × (m ≡ m′) × (b ≡ b′)
 told-settled p q =
-    let put = put-settled (p .answered .put .put) (q .answered .put .put) in
-    (next (p .refused-is ∙ sym (q .refused-is)) (put .1), p .answered .memory-is ∙ sym (q .answered .memory-is), put .0)
+    let put = put-settled (p .replied .put .put) (q .replied .put .put) in
+    (next (p .refused-is ∙ sym (q .refused-is)) (put .1), p .replied .memory-is ∙ sym (q .replied .memory-is), put .0)
   where
     next : {n n′ : Next} → n .refused ≡ n′ .refused → n .at ≡ n′ .at → n ≡ n′
     next refused at = λ i. record { refused = refused i; at = at i }

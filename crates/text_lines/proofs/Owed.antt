@@ -15,7 +15,7 @@ use Rattle.rules.specs.declared.Settings.{Settings}
 use Rattle.rules.specs.Table.{Memory}
 use Rattle.text_requests.specs.declared.Request.the-variants.{Unreadable}
 use Rattle.text_requests.specs.Shapes.{request}
-use Rattle.text_lines.specs.Lines.{answer, lines-after, answers, Stream, keep, end-line, take-byte, feed, finish}
+use Rattle.text_lines.specs.Lines.{line-reply, lines-after, lines-text, Stream, keep, end-line, take-byte, feed, finish}
 
 -- what is kept of a line is its first 65 bytes
 pub record Keeps (begun : List ℕ) (s : Stream) : Type 0 where
@@ -25,7 +25,7 @@ pub record Keeps (begun : List ℕ) (s : Stream) : Type 0 where
 
 -- the answers so far and those still to come
 abbrev pub owed : Settings → Stream → (begun input : List ℕ) → List ℕ
-owed t s begun input = s .text ++ answers t (s .memory) (lines-after begun input)
+owed t s begun input = s .text ++ lines-text t (s .memory) (lines-after begun input)
 
 -- the unfinished line after one byte more
 abbrev pub begun-with : (b : ℕ) → (begun : List ℕ) → List ℕ
@@ -54,8 +54,8 @@ module _ {begun : List ℕ} {s : Stream} (k : Keeps begun s) where
       sym (length-take 65 begun) ∙ ap length (sym (k .first)) ∙ length-take-le (s .count) (s .line) (omega arith)
 
   -- the kept line is answered as the whole one
-  kept-answer : (t : Settings) (m : Memory) → answer t m (take (s .count) (s .line)) ≡ answer t m begun
-  unfolding answer
+  kept-answer : (t : Settings) (m : Memory) → line-reply t m (take (s .count) (s .line)) ≡ line-reply t m begun
+  unfolding line-reply
   kept-answer t m = rw (k .first, same-request)
 
   -- a byte of the line is kept, or is past the first 65
@@ -103,19 +103,19 @@ module _ {begun : List ℕ} {s : Stream} (k : Keeps begun s) where
 
   -- a byte leaves what is owed as it is
   owed-next : (t : Settings) (b : ℕ) (input : List ℕ) → owed t (take-byte t s b) (begun-with b begun) input ≡ owed t s begun (b ∷ input)
-  unfolding take-byte end-line lines-after answers
+  unfolding take-byte end-line lines-after lines-text
   owed-next t b input = by-end (eqb b 10)
     where
-      by-end : (e : Bool) → owed t (cond e (end-line t s) (keep b s)) (cond e [] (begun ++ b ∷ [])) input ≡ s .text ++ answers t (s .memory) (cond e (begun ∷ lines-after [] input) (lines-after (begun ++ b ∷ []) input))
+      by-end : (e : Bool) → owed t (cond e (end-line t s) (keep b s)) (cond e [] (begun ++ b ∷ [])) input ≡ s .text ++ lines-text t (s .memory) (cond e (begun ∷ lines-after [] input) (lines-after (begun ++ b ∷ []) input))
       by-end true = rw (kept-answer t (s .memory), append-assoc)
       by-end false = owed-kept t b (begun ++ b ∷ []) input
 
   -- the end of the input pays what is owed
   pub owed-last : (t : Settings) → finish t s .text ≡ owed t s begun []
-  unfolding finish end-line lines-after answers
+  unfolding finish end-line lines-after lines-text
   owed-last t = by-count (eqb (s .count) 0) refl
     where
-      by-count : (e : Bool) → eqb (s .count) 0 ≡ e → cond e s (end-line t s) .text ≡ s .text ++ answers t (s .memory) (cond (eqb (length begun) 0) [] (begun ∷ []))
+      by-count : (e : Bool) → eqb (s .count) 0 ≡ e → cond e s (end-line t s) .text ≡ s .text ++ lines-text t (s .memory) (cond (eqb (length begun) 0) [] (begun ∷ []))
       by-count true e =
           let none : length begun ≡ 0 = omega (arith, eqb-true (s .count) 0 e, kept-length, sub-add-min-cancel 65 (length begun)) in
           rw (eq-eqb _ _ none, append-nil)

@@ -11,7 +11,7 @@ use borrow.Author.Tests.{eq-eqb, ne-eqb, lt-ltb, le-ltb}
 use Rattle.rules.specs.declared.Settings.{Settings}
 use Rattle.rules.specs.Table.{Memory, lent}
 use Rattle.text_answers.proofs.Puts.{put-both}
-use Rattle.text_lines.specs.Lines.{answer, Stream, going, keep, end-line, take-byte, feed, accepted, Answered, Lies}
+use Rattle.text_lines.specs.Lines.{line-reply, Stream, going, keep, end-line, take-byte, feed, not-refused, Replied, Lies}
 
 -- a chunk after a chunk is one longer chunk
 pub feed-both : (t : Settings) (s : Stream) (a b : List ℕ) → feed t s (a ++ b) ≡ feed t (feed t s a) b
@@ -35,9 +35,9 @@ lies-going refused m line out kept = record {
   inside = omega arith;
 }
 
-module _ (t : Settings) {s : Stream} {m : Memory} {line before out : List ℕ} {count written : ℕ} (l : Lies (accepted s) m line before out (record { refused = false; count = count; written = written })) where
+module _ (t : Settings) {s : Stream} {m : Memory} {line before out : List ℕ} {count written : ℕ} (l : Lies (not-refused s) m line before out (record { refused = false; count = count; written = written })) where
   -- the line ends and is answered
-  pub lies-answered : {m′ : Memory} {out′ : List ℕ} {written′ : ℕ} → written + 33 ≤ length before → Answered (answer t m (take count line)) m′ out written out′ written′ → Lies (accepted (end-line t s)) m′ line before out′ (record { refused = false; count = 0; written = written′ })
+  pub lies-answered : {m′ : Memory} {out′ : List ℕ} {written′ : ℕ} → written + 33 ≤ length before → Replied (line-reply t m (take count line)) m′ out written out′ written′ → Lies (not-refused (end-line t s)) m′ line before out′ (record { refused = false; count = 0; written = written′ })
   unfolding end-line
   lies-answered room a = record {
     refused-is = refl;
@@ -49,12 +49,12 @@ module _ (t : Settings) {s : Stream} {m : Memory} {line before out : List ℕ} {
   }
 
   -- the byte ends the line
-  pub lies-ended : {m′ : Memory} {out′ : List ℕ} {written′ b : ℕ} → b ≡ 10 → written + 33 ≤ length before → Answered (answer t m (take count line)) m′ out written out′ written′ → Lies (accepted (take-byte t s b)) m′ line before out′ (record { refused = false; count = 0; written = written′ })
+  pub lies-ended : {m′ : Memory} {out′ : List ℕ} {written′ b : ℕ} → b ≡ 10 → written + 33 ≤ length before → Replied (line-reply t m (take count line)) m′ out written out′ written′ → Lies (not-refused (take-byte t s b)) m′ line before out′ (record { refused = false; count = 0; written = written′ })
   unfolding take-byte
   lies-ended e room a = rw (eq-eqb _ _ e) (lies-answered room a)
 
   -- the byte is the line's next
-  pub lies-kept : {b : ℕ} → (b ≡ 10 → ⊥) → count < 65 → Lies (accepted (take-byte t s b)) m (set line count b) before out (record { refused = false; count = count + 1; written = written })
+  pub lies-kept : {b : ℕ} → (b ≡ 10 → ⊥) → count < 65 → Lies (not-refused (take-byte t s b)) m (set line count b) before out (record { refused = false; count = count + 1; written = written })
   unfolding take-byte keep
   lies-kept n h = rw (ne-eqb _ _ n, ← l .count-is, lt-ltb _ _ h) (record {
     refused-is = refl;
@@ -66,7 +66,7 @@ module _ (t : Settings) {s : Stream} {m : Memory} {line before out : List ℕ} {
   })
 
   -- the line is too long already
-  pub lies-left-out : {b : ℕ} → (b ≡ 10 → ⊥) → 65 ≤ count → Lies (accepted (take-byte t s b)) m line before out (record { refused = false; count = count; written = written })
+  pub lies-left-out : {b : ℕ} → (b ≡ 10 → ⊥) → 65 ≤ count → Lies (not-refused (take-byte t s b)) m line before out (record { refused = false; count = count; written = written })
   unfolding take-byte keep
   lies-left-out n h = rw (ne-eqb _ _ n, ← l .count-is, le-ltb _ _ h) (record {
     refused-is = refl;
@@ -86,4 +86,4 @@ pub record Turn (t : Settings) (counters₀ slots₀ line₀ : List ℕ) (kept :
   pub slots-long : length slots ≡ length slots₀
   pub line-long : length line ≡ length line₀
   pub out-long : length out ≡ length out₀
-  pub lies : Lies (accepted (feed t (going (lent counters₀ slots₀) line₀ kept) (take i chunk))) (lent counters slots) line out₀ out (record { refused = false; count = count; written = written })
+  pub lies : Lies (not-refused (feed t (going (lent counters₀ slots₀) line₀ kept) (take i chunk))) (lent counters slots) line out₀ out (record { refused = false; count = count; written = written })

@@ -10,7 +10,7 @@ use Rattle.rules.specs.Table.{Memory, Outcome, add, withdraw, change, lookup}
 use Rattle.text_requests.specs.declared.Request.{Request}
 use Rattle.text_requests.specs.declared.Request.the-variants.{Add, Drop, Move, Find, Unreadable}
 use Rattle.text_requests.specs.Shapes.{request}
-use Rattle.text_answers.specs.Texts.{outcome, found, unreadable, Put, PutWithin}
+use Rattle.text_answers.specs.Texts.{update-text, lookup-text, unreadable, Put, PutWithin}
 use Rattle.text_lines.specs.declared.Next.{Next}
 use Rattle.text_lines.specs.declared.Fed.{Fed}
 
@@ -23,19 +23,19 @@ pub record Reply : Type 0 where
 
 -- what an update gives back and leaves, as a reply
 unfoldable pub updated : Outcome → Reply
-updated u = record { text = outcome (u .refusal); memory = u .memory }
+updated u = record { text = update-text (u .refusal); memory = u .memory }
 
 -- the call that a line asks for replies; an unreadable line leaves the memory as it is
 unfoldable pub reply : Settings → Memory → Request → Reply
 reply t m (Add p L hop) = updated (add t m p L hop)
 reply t m (Drop p L) = updated (withdraw t m p L)
 reply t m (Move p L hop) = updated (change t m p L hop)
-reply t m (Find address) = record { text = found (lookup t m address); memory = m }
+reply t m (Find address) = record { text = lookup-text (lookup t m address); memory = m }
 reply t m Unreadable = record { text = unreadable; memory = m }
 
 -- what is answered to a line of any bytes
-unfoldable pub answer : Settings → Memory → (line : List ℕ) → Reply
-answer t m line = reply t m (request line)
+unfoldable pub line-reply : Settings → Memory → (line : List ℕ) → Reply
+line-reply t m line = reply t m (request line)
 
 -- ---- The lines of an input
 
@@ -50,9 +50,9 @@ unfoldable pub lines : (input : List ℕ) → List (List ℕ)
 lines input = lines-after [] input
 
 -- lines answered one after the other, each on the memory that the last one left
-unfoldable pub answers : Settings → Memory → List (List ℕ) → List ℕ
-answers t m [] = []
-answers t m (line ∷ rest) = answer t m line .text ++ answers t (answer t m line .memory) rest
+unfoldable pub lines-text : Settings → Memory → List (List ℕ) → List ℕ
+lines-text t m [] = []
+lines-text t m (line ∷ rest) = line-reply t m line .text ++ lines-text t (line-reply t m line .memory) rest
 
 -- ---- A stream
 
@@ -78,7 +78,7 @@ keep b s =
 -- the line that is kept ends and is answered
 unfoldable pub end-line : Settings → Stream → Stream
 end-line t s =
-    let r = answer t (s .memory) (take (s .count) (s .line)) in
+    let r = line-reply t (s .memory) (take (s .count) (s .line)) in
     record { memory = r .memory; line = s .line; count = 0; text = s .text ++ r .text }
 
 -- byte 10 ends the line; any other one is its next
@@ -95,16 +95,16 @@ unfoldable pub finish : Settings → Stream → Stream
 finish t s = cond (eqb (s .count) 0) s (end-line t s)
 
 -- all that is written where chunks are fed one after the other and the input ends: each chunk's answers, then the last line's
-unfoldable pub written : Settings → Stream → (chunks : List (List ℕ)) → List ℕ
-written t s [] = finish t s .text
-written t s (chunk ∷ chunks) =
+unfoldable pub stream-text : Settings → Stream → (chunks : List (List ℕ)) → List ℕ
+stream-text t s [] = finish t s .text
+stream-text t s (chunk ∷ chunks) =
     let s′ = feed t s chunk in
-    s′ .text ++ written t (going (s′ .memory) (s′ .line) (s′ .count)) chunks
+    s′ .text ++ stream-text t (going (s′ .memory) (s′ .line) (s′ .count)) chunks
 
 -- the input of which these are the chunks
-unfoldable pub joined : (chunks : List (List ℕ)) → List ℕ
-joined [] = []
-joined (chunk ∷ chunks) = chunk ++ joined chunks
+unfoldable pub input-of : (chunks : List (List ℕ)) → List ℕ
+input-of [] = []
+input-of (chunk ∷ chunks) = chunk ++ input-of chunks
 
 -- ---- The calls, which are refused for want of room
 
@@ -113,16 +113,16 @@ pub record Tried (A : Type 0) : Type 0 where
   pub refused : Bool
   pub leaves : A
 
-abbrev pub accepted : {A : Type 0} → A → Tried A
-accepted made = record { refused = false; leaves = made }
+abbrev pub not-refused : {A : Type 0} → A → Tried A
+not-refused made = record { refused = false; leaves = made }
 
 -- with room a call leaves what it makes; with none it is refused and leaves what was there
 abbrev pub if-room : {A : Type 0} → (room : Bool) (made there : A) → Tried A
 if-room room made there = record { refused = not room; leaves = cond room made there }
 
 -- room for an answer, which is at most 33 bytes, at a position
-unfoldable pub fits : (at : ℕ) (out : List ℕ) → Bool
-fits at out = leb (at + 33) (length out)
+unfoldable pub answer-fits : (at : ℕ) (out : List ℕ) → Bool
+answer-fits at out = leb (at + 33) (length out)
 
 -- room for an unfinished line, no more of which is kept than 65 bytes, and for the answers to so many lines
 unfoldable pub roomy : (line : List ℕ) (kept ends : ℕ) (out : List ℕ) → Bool
@@ -130,7 +130,7 @@ roomy line kept ends out = leb 65 (length line) && (leb kept 65 && leb (ends * 3
 
 -- a line that is refused writes nothing and leaves the memory as it is
 unfoldable pub answer-line : Settings → Memory → (line : List ℕ) (at : ℕ) (out : List ℕ) → Tried Reply
-answer-line t m line at out = if-room (fits at out) (answer t m line) (record { text = []; memory = m })
+answer-line t m line at out = if-room (answer-fits at out) (line-reply t m line) (record { text = []; memory = m })
 
 -- each byte of a chunk may end a line
 unfoldable pub feed-chunk : Settings → Stream → (chunk out : List ℕ) → Tried Stream
@@ -142,14 +142,14 @@ finish-input t s out = if-room (roomy (s .line) (s .count) 1 out) (finish t s) s
 -- ---- What the calls leave in lent memory
 
 -- a reply of at most 33 bytes is put at a position, and the memory is left as it says
-pub record Answered (r : Reply) (memory : Memory) (before : List ℕ) (at : ℕ) (after : List ℕ) (next : ℕ) : Type 0 where
+pub record Replied (r : Reply) (memory : Memory) (before : List ℕ) (at : ℕ) (after : List ℕ) (next : ℕ) : Type 0 where
   pub memory-is : memory ≡ r .memory
   pub put : PutWithin 33 before at (r .text) after next
 
 -- what answering a line gives back and leaves
 pub record Told (x : Tried Reply) (memory : Memory) (before : List ℕ) (at : ℕ) (after : List ℕ) (next : Next) : Type 0 where
   pub refused-is : next .refused ≡ x .refused
-  pub answered : Answered (x .leaves) memory before at after (next .at)
+  pub replied : Replied (x .leaves) memory before at after (next .at)
 
 -- what `roomy` tests
 pub record Room (line : List ℕ) (kept ends : ℕ) (out : List ℕ) : Type 0 where

@@ -8,7 +8,7 @@ ghost use Prim.Native.Nat.{_+_, _≤_};
 ghost use mathlib.Core.Path.{_≡_};
 ghost use lib.ListN.{length};
 ghost use Rattle.rules.specs.Table.{lent};
-ghost use Rattle.text_lines.specs.Lines.{answer, going, feed, accepted, fits, roomy, answer-line, feed-chunk, finish-input, Answered, Told, Room, Lies};
+ghost use Rattle.text_lines.specs.Lines.{line-reply, going, feed, not-refused, answer-fits, roomy, answer-line, feed-chunk, finish-input, Replied, Told, Room, Lies};
 use rules::Settings;
 use text_answers::put_found;
 use text_answers::put_outcome;
@@ -32,7 +32,7 @@ pub struct Fed {
 
 // Whether an answer fits in at a position.
 fn has_room_at(out: &[u8], at: usize) -> bool
-    ensures { λ r. ⌜ r ≡ fits at (now (out .entry)) ⌝ }
+    ensures { λ r. ⌜ r ≡ answer-fits at (now (out .entry)) ⌝ }
 {
     if at > out.len() {
         return false;
@@ -63,7 +63,7 @@ fn answer_into(
     at: usize,
 ) -> usize
     requires { ⌜ at + 33 ≤ length (now out) ⌝ }
-    ensures { λ r. ⌜ Answered (answer settings (lent (now (counters .entry)) (now (slots .entry))) (now (line .entry))) (lent (now (counters .exit)) (now (slots .exit))) (now (out .entry)) at (now (out .exit)) r ⌝ }
+    ensures { λ r. ⌜ Replied (line-reply settings (lent (now (counters .entry)) (now (slots .entry))) (now (line .entry))) (lent (now (counters .exit)) (now (slots .exit))) (now (out .entry)) at (now (out .exit)) r ⌝ }
 {
     match read_request(line) {
         Request::Add {
@@ -130,7 +130,7 @@ fn feed_into(
     out: &mut [u8],
 ) -> Fed
     requires { ⌜ Room (now line) kept (length (now chunk)) (now out) ⌝ }
-    ensures { λ r. ⌜ Lies (accepted (feed settings (going (lent (now (counters .entry)) (now (slots .entry))) (now (line .entry)) kept) (now (chunk .entry)))) (lent (now (counters .exit)) (now (slots .exit))) (now (line .exit)) (now (out .entry)) (now (out .exit)) r ⌝ }
+    ensures { λ r. ⌜ Lies (not-refused (feed settings (going (lent (now (counters .entry)) (now (slots .entry))) (now (line .entry)) kept) (now (chunk .entry)))) (lent (now (counters .exit)) (now (slots .exit))) (now (line .exit)) (now (out .entry)) (now (out .exit)) r ⌝ }
 {
     let mut count = kept;
     let mut written = 0;

@@ -1,59 +1,74 @@
--- Lines are a history of the updates that they ask for: find and unreadable lines are no part of it.
-use Prim.Native.Nat.{ℕ, _^_}
-use mathlib.Core.Path.{_≡_, refl, sym, ap, _∙_}
+-- A line stands for the call that it asks for, and its text tells the number that the call was given. So a history goes on with any line, and what is
+-- written to each is what the routes on paper say.
+use Prim.Native.Nat.{ℕ, _^_, _<_}
+use mathlib.Core.Path.{_≡_, refl, ap, ap₂, _∙_}
 use mathlib.Core.Bool.{true}
 use mathlib.Core.List.{List, [], _∷_, _++_}
 use mathlib.Core.Option.{Option, some, none}
 use borrow.Author.Tests.{lt-ltb}
 use Rattle.rules.specs.declared.Settings.{Settings}
+use Rattle.rules.specs.Table.{Memory, lookup}
+use Rattle.rules.specs.Calls.{Call, Add as Call·Add, Withdraw, Change, word-sized, all-word-sized, act, each, run}
 use Rattle.text_requests.specs.declared.Request.{Request}
 use Rattle.text_requests.specs.declared.Request.the-variants.{Add, Drop, Move, Find, Unreadable}
 use Rattle.text_requests.specs.Shapes.{request}
-use Rattle.text_requests.proofs.Words.{Words, request-words}
-use Rattle.text_lines.specs.Lines.{answer, answers}
-use Rattle.promises.specs.History.{Call, State, word-sized, all-word-sized, after, after-by}
-use Rattle.promises.proofs.Kept.{Kept}
-use Rattle.promises.proofs.Histories.{kept-after}
-use Rattle.text_promises.specs.Paper.{update-of, paper-answers, after-line, after-lines, also, updates}
-use Rattle.text_promises.proofs.Line.{one-line, text-on-paper}
+use Rattle.text_requests.proofs.Words.{WordSized, request-words}
+use Rattle.text_answers.specs.Texts.{update-text, lookup-text}
+use Rattle.text_lines.specs.Lines.{updated, reply, line-reply, lines-text}
+use Rattle.promises.specs.History.{Route, stored, SingleCalls, History}
+use Rattle.promises.specs.Demands.{longest}
+use Rattle.promises.proofs.Matches.{answer-by}
+use Rattle.promises.proofs.Lookups.{lookup-by-routes}
+use Rattle.promises.proofs.Histories.{kept, made, one-made, history-more, more-routes-on-paper}
+use Rattle.promises.proofs.Promises.{numbers-given}
+use Rattle.text_promises.specs.Paper.{calls-of, find-text, text-by, paper-answers}
+use Rattle.text_promises.specs.Typed.{number-told, numbers-told}
+use Rattle.text_promises.proofs.Texts.{told-number}
 
--- one call more, and then the others
-after-also : (t : Settings) (s : State) (o : Option Call) (calls : List Call) → after t s (also o calls) ≡ after t (after t s (also o [])) calls
-unfolding after-by also
-after-also t s (some call) calls = refl
-after-also t s none calls = refl
+module _ (t : Settings) (m : Memory) where
+  told : (call : Call) → word-sized call ≡ true → SingleCalls t m (call ∷ []) (number-told (update-text (act t call m .refusal)) ∷ []) (act t call m .memory)
+  told call sized = rw told-number (one-made sized refl)
 
-pub lines-history : (t : Settings) (s : State) (lines : List (List ℕ)) → after-lines t s lines ≡ after t s (updates lines)
-unfolding after-lines updates after-by
-lines-history t s [] = refl
-lines-history t s (line ∷ lines) =
-    lines-history t (after-line t s line) lines
-    ∙ ap (λ (s′ : State). after t s′ (updates lines)) (one-line t s line)
-    ∙ sym (after-also t s (update-of (request line)) (updates lines))
+  -- A line is the call that it asks for, or none.
+  pub line-made : (line : List ℕ) → SingleCalls t m (calls-of (request line)) (numbers-told (calls-of (request line)) (line-reply t m line .text)) (line-reply t m line .memory)
+  unfolding numbers-told line-reply reply updated calls-of act word-sized all-word-sized run each
+  line-made line = go (request line) (request-words line)
+    where
+      go : (r : Request) → WordSized r → SingleCalls t m (calls-of r) (numbers-told (calls-of r) (reply t m r .text)) (reply t m r .memory)
+      go (Add p L hop) word = told (Call·Add p L hop) (lt-ltb p (2 ^ 32) word)
+      go (Drop p L) word = told (Withdraw p L) (lt-ltb p (2 ^ 32) word)
+      go (Move p L hop) word = told (Change p L hop) (lt-ltb p (2 ^ 32) word)
+      go (Find address) word = made t m [] refl
+      go Unreadable word = made t m [] refl
 
--- every update that a line asks for has a prefix of 32 bits
-also-sized : (r : Request) → Words r → (calls : List Call) → all-word-sized calls ≡ true → all-word-sized (also (update-of r) calls) ≡ true
-unfolding also update-of all-word-sized word-sized
-also-sized (Add p L hop) word calls others = rw (lt-ltb p (2 ^ 32) word) others
-also-sized (Drop p L) word calls others = rw (lt-ltb p (2 ^ 32) word) others
-also-sized (Move p L hop) word calls others = rw (lt-ltb p (2 ^ 32) word) others
-also-sized (Find address) word calls others = others
-also-sized Unreadable word calls others = others
+module _ {t : Settings} {calls : List Call} {answers : List ℕ} {m : Memory} (history : History t calls answers m) where
+  -- what a lookup answers is written so
+  find-on-paper : (address : ℕ) → address < 2 ^ 32 → lookup-text (lookup t m address) ≡ find-text t (stored calls answers) address (longest address (stored calls answers))
+  unfolding lookup-text answer-by find-text
+  find-on-paper address word = rw (lookup-by-routes (kept history) address word) (go (longest address (stored calls answers)))
+    where
+      go : (o : Option Route) → lookup-text (answer-by t (stored calls answers) address o) ≡ find-text t (stored calls answers) address o
+      go (some r) = refl
+      go none = refl
 
-pub updates-sized : (lines : List (List ℕ)) → all-word-sized (updates lines) ≡ true
-unfolding updates all-word-sized
-updates-sized [] = refl
-updates-sized (line ∷ lines) = also-sized (request line) (request-words line) (updates lines) (updates-sized lines)
+  -- What is written to a line is what the routes on paper say.
+  pub text-on-paper : (line : List ℕ) → line-reply t m line .text ≡ text-by t (stored calls answers) (request line)
+  unfolding line-reply reply updated text-by act word-sized
+  text-on-paper line = go (request line) (request-words line)
+    where
+      go : (r : Request) → WordSized r → reply t m r .text ≡ text-by t (stored calls answers) r
+      go (Add p L hop) word = ap update-text (numbers-given history (Call·Add p L hop) (lt-ltb p (2 ^ 32) word))
+      go (Drop p L) word = ap update-text (numbers-given history (Withdraw p L) (lt-ltb p (2 ^ 32) word))
+      go (Move p L hop) word = ap update-text (numbers-given history (Change p L hop) (lt-ltb p (2 ^ 32) word))
+      go (Find address) word = find-on-paper address word
+      go Unreadable word = refl
 
-module _ {t : Settings} where
-  -- so lines keep memory and routes together
-  pub kept-lines : {s : State} → Kept t (s .routes) (s .memory) → (lines : List (List ℕ)) → Kept t (after-lines t s lines .routes) (after-lines t s lines .memory)
-  kept-lines {s} kept lines = rw (lines-history t s lines) (kept-after kept (updates lines) (updates-sized lines))
-
-  -- and what is written to them is what the paper says
-  pub answers-on-paper : {s : State} → Kept t (s .routes) (s .memory) → (lines : List (List ℕ)) → answers t (s .memory) lines ≡ paper-answers t (s .routes) lines
-  unfolding answers paper-answers after-lines after-line
-  answers-on-paper kept [] = refl
-  answers-on-paper {s} kept (line ∷ lines) =
-      rw (← text-on-paper kept line)
-      (ap (λ (rest : List ℕ). answer t (s .memory) line .text ++ rest) (answers-on-paper {s = after-line t s line} (kept-lines kept (line ∷ [])) lines))
+-- So it is of lines, one after the other.
+pub lines-on-paper : {t : Settings} {calls : List Call} {answers : List ℕ} {m : Memory} → History t calls answers m → (lines : List (List ℕ))
+    → lines-text t m lines ≡ paper-answers t (stored calls answers) lines
+unfolding lines-text paper-answers
+lines-on-paper history [] = refl
+lines-on-paper {t} {m = m} history (line ∷ lines) =
+    let next = line-made t m line in
+    ap₂ _++_ (text-on-paper history line)
+    (lines-on-paper (history-more history next) lines ∙ ap (λ (routes : List Route). paper-answers t routes lines) (more-routes-on-paper history next))

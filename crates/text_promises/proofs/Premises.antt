@@ -1,79 +1,135 @@
--- Each promise's premises are met after a few lines: computed, and handed to the promise.
+-- Each promise's premises are met after a few lines, under settings T and under filters of unequal size: what is written is computed,
+-- and handed to the promise.
 use Prim.Native.Nat.{ℕ}
-use mathlib.Core.Path.{_≡_, refl}
+use mathlib.Core.Path.{_≡_, refl, ap}
 use mathlib.Core.Bool.{false}
-use mathlib.Core.List.{List, [], _∷_}
+use mathlib.Core.List.{List, [], _∷_, _++_}
 use native.Mathlib.Omega.{arith}
+use lib.Dec.{lit≤}
 use lib.ListN.{replicate}
 use lib.Seq.{sets}
-use Rattle.rules.specs.Table.{Memory, lent, clear}
-use Rattle.rules.proofs.Worked.{ip, T, computing}
+use Rattle.rules.specs.declared.Settings.{Settings}
+use Rattle.rules.specs.Table.{Memory, lent}
+use Rattle.rules.specs.Calls.{Call, Clear, Add, Withdraw, word-sized, act}
+use Rattle.rules.proofs.Worked.{ip, T}
 use Rattle.text_spelling.specs.Spelling.{spelled}
-use Rattle.text_answers.specs.Texts.{found, unreadable}
-use Rattle.text_lines.specs.Lines.{updated, reply, answer, lines, joined, keep, end-line, take-byte, feed, finish, roomy, feed-chunk, finish-input}
-use Rattle.promises.specs.History.{State, Withdraw}
-use Rattle.promises.specs.Demands.{Longest}
+use Rattle.text_answers.specs.Texts.{update-text, route-text, none-text, lookup-text, unreadable}
+use Rattle.text_lines.specs.Lines.{updated, reply, line-reply, lines, input-of, keep, end-line, take-byte, feed, finish, roomy, feed-chunk, finish-input}
+use Rattle.promises.specs.History.{Route, stored, SingleCalls, History, Ran, Stop, Then}
+use Rattle.promises.specs.Demands.{Longest, probes-down-to, number-given}
+use Rattle.promises.proofs.Agree.{sevens}
 use Rattle.promises.proofs.Paper.{route}
 use Rattle.promises.proofs.Matches.{right}
-use Rattle.text_promises.specs.Paper.{paper-answers, after-line, after-lines}
+use Rattle.promises.proofs.Histories.{one-made}
+use Rattle.text_promises.specs.Paper.{paper-answers}
+use Rattle.text_promises.specs.Typed.{number-told, numbers-told, Typed, Line}
 use Rattle.text_promises.specs.Streams.{Streamed, Chunk, Ended}
 use Rattle.text_promises.proofs.Sample.{paper-computing}
-use Rattle.text_promises.proofs.Promises.{numbers-written, longest-written, default-written, none-written, program-writes}
+use Rattle.text_promises.proofs.Promises.{lines-are-history, numbers-written, longest-written, default-written, none-written, replacing-written, program-writes}
 
--- lent memory that held sevens
-abbrev sevens : Memory
-sevens = lent (replicate 512 7) (replicate 257 7)
-
-cleared : clear T sevens .refusal ≡ 0
-unfolding computing
-cleared = refl
+-- ---- Typed lines
 
 -- three routes are added
-morning : List (List ℕ)
-morning = spelled "add 10.0.0.0/8 7" ∷ spelled "add 10.1.0.0/16 9" ∷ spelled "add 0.0.0.0/0 3" ∷ []
+abbrev eight : List ℕ
+eight = spelled "add 10.0.0.0/8 7"
 
--- memory and paper then
-abbrev then : State
-then = after-lines T (record { memory = clear T sevens .memory; routes = [] }) morning
+abbrev sixteen : List ℕ
+sixteen = spelled "add 10.1.0.0/16 9"
+
+abbrev default : List ℕ
+default = spelled "add 0.0.0.0/0 3"
+
+-- the calls that the lines ask for
+abbrev morning : List Call
+morning = Add (ip 10 0 0 0) 8 7 ∷ Add (ip 10 1 0 0) 16 9 ∷ Add 0 0 3 ∷ []
+
+-- the memory after one line more
+abbrev after : Settings → Memory → List ℕ → Memory
+after t m line = line-reply t m line .memory
+
+-- the numbers that the lines are told
+abbrev given : Settings → Memory → List ℕ
+given t m =
+    let to : Memory → List ℕ → ℕ = λ m line. number-told (line-reply t m line .text) in
+    to m eight ∷ to (after t m eight) sixteen ∷ to (after t (after t m eight) sixteen) default ∷ []
+
+-- the routes that are stored then
+abbrev then : List Route
+then = stored morning (0 ∷ 0 ∷ 0 ∷ [])
+
+-- what is computed under settings t, on memory that held anything
+record Worked (t : Settings) (before : Memory) : Type 0 where
+  cleared : act t Clear before .refusal ≡ 0
+  accepted : given t (act t Clear before .memory) ≡ 0 ∷ 0 ∷ 0 ∷ []
 
 -- to unfold this is to unfold what the program computes with too
 unfoldable all-computing : ℕ
-unfolding paper-computing found updated reply answer after-line after-lines morning
+unfolding paper-computing lookup-text updated reply line-reply number-told
 all-computing = 0
 
-longest-met : answer T (then .memory) (spelled "find 10.2.2.3") .text ≡ spelled "7 8 2\n"
+at-T : Worked T sevens
 unfolding all-computing
-longest-met = longest-written T sevens cleared morning (spelled "find 10.2.2.3") (ip 10 2 2 3) refl (route (ip 10 0 0 0) 8 7) (right (ip 10 2 2 3) (then .routes))
+at-T = record { cleared = refl; accepted = refl }
 
-default-best : Longest (ip 12 0 0 1) (then .routes) (route 0 0 3)
+-- T with other filters: D is 5 at length 8, 6 at 16, and 4 at the rest
+at-U : Worked (record { k = 2; d = replicate 7 4 ++ (5 ∷ replicate 7 4) ++ 6 ∷ replicate 16 4; e = 1; s = 2; a = 1; b = 2; c = 1 })
+    (record { counters = replicate 576 7; slots = replicate 257 7 })
 unfolding all-computing
-default-best = right (ip 12 0 0 1) (then .routes)
+at-U = record { cleared = refl; accepted = refl }
 
-default-met : answer T (then .memory) (spelled "find 12.0.0.1") .text ≡ spelled "3 0 0\n"
-unfolding all-computing
-default-met = default-written T sevens cleared morning (spelled "find 12.0.0.1") (ip 12 0 0 1) refl (route 0 0 3) (default-best .stored) refl
-    (λ q stored matching. omega (arith, default-best .longest q stored matching))
+module _ {t : Settings} {before : Memory} (worked : Worked t before) where
+  -- the memory after the clear, and after the lines
+  abbrev empty : Memory
+  empty = act t Clear before .memory
 
-none-met : answer T (clear T sevens .memory) (spelled "find 12.0.0.1") .text ≡ spelled "none 0\n"
-unfolding all-computing
-none-met = none-written T sevens cleared [] (spelled "find 12.0.0.1") (ip 12 0 0 1) refl (right (ip 12 0 0 1) [])
+  abbrev m : Memory
+  m = after t (after t (after t empty eight) sixteen) default
 
-number-met : answer T (then .memory) (spelled "drop 11.0.0.0/8") .text ≡ spelled "refused 7\n"
-unfolding all-computing
-number-met = numbers-written T sevens cleared morning (spelled "drop 11.0.0.0/8") (Withdraw (ip 11 0 0 0) 8) refl
+  begun : SingleCalls t before (Clear ∷ []) (0 ∷ []) empty
+  unfolding word-sized
+  begun = one-made refl (ap (λ r. record { refusal = r; memory = empty }) (worked .cleared))
+
+  typed : Ran (Typed t) empty morning (given t empty) m
+  unfolding paper-computing numbers-told
+  typed = Then (Line eight) (Then (Line sixteen) (Then (Line default) Stop))
+
+  lived : History t morning (0 ∷ 0 ∷ 0 ∷ []) m
+  lived = rw (worked .accepted) at (lines-are-history begun typed)
+
+  longest-met : line-reply t m (spelled "find 10.2.2.3") .text ≡ route-text 7 8 (probes-down-to t then (ip 10 2 2 3) 8)
+  unfolding paper-computing
+  longest-met = longest-written lived (spelled "find 10.2.2.3") (ip 10 2 2 3) refl (route (ip 10 0 0 0) 8 7) (right (ip 10 2 2 3) then)
+
+  default-best : Longest (ip 12 0 0 1) then (route 0 0 3)
+  unfolding paper-computing
+  default-best = right (ip 12 0 0 1) then
+
+  default-met : line-reply t m (spelled "find 12.0.0.1") .text ≡ route-text 3 0 (probes-down-to t then (ip 12 0 0 1) 0)
+  unfolding paper-computing
+  default-met = default-written lived (spelled "find 12.0.0.1") (ip 12 0 0 1) refl (route 0 0 3) (default-best .stored) refl
+      (λ q stands matching. omega (arith, default-best .longest q stands matching))
+
+  none-met : line-reply t empty (spelled "find 12.0.0.1") .text ≡ none-text (probes-down-to t [] (ip 12 0 0 1) 0)
+  unfolding paper-computing
+  none-met = none-written (lines-are-history begun Stop) (spelled "find 12.0.0.1") (ip 12 0 0 1) refl (right (ip 12 0 0 1) [])
+
+  number-met : line-reply t m (spelled "drop 11.0.0.0/8") .text ≡ update-text (number-given t then (Withdraw (ip 11 0 0 0) 8))
+  unfolding paper-computing
+  number-met = numbers-written lived (spelled "drop 11.0.0.0/8") (Withdraw (ip 11 0 0 0) 8) refl
+
+  replacing-met : line-reply t m (spelled "add 0.0.0.0/0 5") .text ≡ spelled "ok\n"
+  unfolding paper-computing
+  replacing-met = replacing-written lived (spelled "add 0.0.0.0/0 5") (route 0 0 3) (default-best .stored) 5 (lit≤ tt) refl
 
 -- ---- A caller of crates/text_lines
 
--- the byte x is fed and the input ends: what is passed on is the answer to that one line
-abbrev zeros : Memory
-zeros = lent (replicate 512 0) (replicate 257 0)
-
 -- to unfold this is to unfold what a stream computes with
 unfoldable streaming : ℕ
-unfolding all-computing feed-chunk finish-input roomy feed take-byte keep finish end-line sets
+unfolding all-computing feed-chunk finish-input roomy feed take-byte keep finish end-line
 streaming = 0
 
-x-fed : Streamed T zeros (replicate 65 0) 0 ((120 ∷ []) ∷ []) unreadable
+-- the byte x is fed and the input ends: what is passed on is the answer to that one line
+x-fed : Streamed T (lent (replicate 512 0) (replicate 257 0)) (replicate 65 0) 0 ((120 ∷ []) ∷ []) unreadable
 unfolding streaming
 x-fed =
     Chunk {chunk = 120 ∷ []} {out = replicate 33 0} {out′ = replicate 33 0} {r = record { refused = false; count = 1; written = 0 }} (omega arith)
@@ -81,5 +137,5 @@ x-fed =
     (Ended {out = replicate 33 0} {out′ = sets (replicate 33 0) 0 unreadable} {r = record { refused = false; count = 0; written = 11 }} (omega arith)
     (record { refused-is = refl; memory-is = refl; line-is = refl; count-is = refl; put = record { holds = refl; end = refl }; inside = omega arith }))
 
-program-met : unreadable ≡ paper-answers T [] (lines (joined ((120 ∷ []) ∷ [])))
+program-met : unreadable ≡ paper-answers T [] (lines (input-of ((120 ∷ []) ∷ [])))
 program-met = program-writes x-fed

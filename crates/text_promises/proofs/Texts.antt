@@ -11,61 +11,53 @@ use lib.Dec.{ltb, eqb}
 use borrow.Author.Tests.{lt-ltb, le-leb, ltb-true, ltb-false, eqb-true}
 use Rattle.rules.specs.declared.Settings.{Settings}
 use Rattle.rules.specs.Tools.{within}
-use Rattle.text_spelling.specs.Spelling.{spelled, same-bytes}
+use Rattle.text_spelling.specs.Spelling.{spelled}
 use Rattle.text_requests.specs.declared.Request.{Request}
 use Rattle.text_requests.specs.declared.Request.the-variants.{Add, Drop, Move, Find, Unreadable}
 use Rattle.text_requests.specs.Shapes.{digit, digits, value}
-use Rattle.text_answers.specs.Texts.{last-digits, decimal, refused, outcome, hit, miss, unreadable}
+use Rattle.text_answers.specs.Texts.{last-digits, decimal, refused-text, update-text, route-text, none-text, unreadable}
 use Rattle.text_answers.proofs.Decimals.{decimal-first}
 use Rattle.promises.specs.History.{Route}
 use Rattle.promises.specs.Demands.{longest}
 use Rattle.text_promises.specs.Paper.{find-text, text-by}
-
--- ok is written to no refusal
-pub only-ok : (n : ℕ) → same-bytes (outcome n) (spelled "ok\n") ≡ eqb n 0
-unfolding outcome refused
-only-ok n = go (eqb n 0)
-  where
-    go : (b : Bool) → same-bytes (cond b (spelled "ok\n") (refused n)) (spelled "ok\n") ≡ b
-    go true = refl
-    go false = refl
+use Rattle.text_promises.specs.Typed.{number-told}
 
 abbrev first : (text : List ℕ) → ℕ
 first text = getD text 0 0
 
 -- a route begins with a digit
-hit-first : (hop length probes : ℕ) → first (hit hop length probes) < 58
-unfolding hit
-hit-first hop length probes = simp append-assoc (decimal-first hop _)
+route-first : (hop length probes : ℕ) → first (route-text hop length probes) < 58
+unfolding route-text
+route-first hop length probes = simp append-assoc (decimal-first hop _)
 
 -- none does not
-pub no-miss : (hop length probes many : ℕ) → hit hop length probes ≡ miss many → ⊥
-unfolding miss
-no-miss hop length probes many e = omega (arith, hit-first hop length probes, ap first e)
+pub route-not-none : (hop length probes many : ℕ) → route-text hop length probes ≡ none-text many → ⊥
+unfolding none-text
+route-not-none hop length probes many e = omega (arith, route-first hop length probes, ap first e)
 
 -- nor is any other text the one that is written to an unreadable line
-no-hit : (hop length probes : ℕ) → hit hop length probes ≡ unreadable → ⊥
-no-hit hop length probes e = omega (arith, hit-first hop length probes, ap first e)
+route-not-unreadable : (hop length probes : ℕ) → route-text hop length probes ≡ unreadable → ⊥
+route-not-unreadable hop length probes e = omega (arith, route-first hop length probes, ap first e)
 
-no-outcome : (n : ℕ) → outcome n ≡ unreadable → ⊥
-unfolding outcome refused
-no-outcome n e = go (eqb n 0) (ap first e)
+update-not-unreadable : (n : ℕ) → update-text n ≡ unreadable → ⊥
+unfolding update-text refused-text
+update-not-unreadable n e = go (eqb n 0) (ap first e)
   where
-    go : (b : Bool) → first (cond b (spelled "ok\n") (refused n)) ≡ first unreadable → ⊥
+    go : (b : Bool) → first (cond b (spelled "ok\n") (refused-text n)) ≡ first unreadable → ⊥
     go true h = omega arith
     go false h = omega arith
 
-no-find : (t : Settings) (routes : List Route) (address : ℕ) (o : Option Route) → find-text t routes address o ≡ unreadable → ⊥
-unfolding find-text miss
-no-find t routes address (some r) e = no-hit _ _ _ e
-no-find t routes address none e = omega (arith, ap first e)
+find-not-unreadable : (t : Settings) (routes : List Route) (address : ℕ) (o : Option Route) → find-text t routes address o ≡ unreadable → ⊥
+unfolding find-text none-text
+find-not-unreadable t routes address (some r) e = route-not-unreadable _ _ _ e
+find-not-unreadable t routes address none e = omega (arith, ap first e)
 
 pub only-unreadable : (t : Settings) (routes : List Route) (r : Request) → text-by t routes r ≡ unreadable → r ≡ Unreadable
 unfolding text-by
-only-unreadable t routes (Add p L hop) e = absurd (no-outcome _ e)
-only-unreadable t routes (Drop p L) e = absurd (no-outcome _ e)
-only-unreadable t routes (Move p L hop) e = absurd (no-outcome _ e)
-only-unreadable t routes (Find address) e = absurd (no-find t routes address (longest address routes) e)
+only-unreadable t routes (Add p L hop) e = absurd (update-not-unreadable _ e)
+only-unreadable t routes (Drop p L) e = absurd (update-not-unreadable _ e)
+only-unreadable t routes (Move p L hop) e = absurd (update-not-unreadable _ e)
+only-unreadable t routes (Find address) e = absurd (find-not-unreadable t routes address (longest address routes) e)
 only-unreadable t routes Unreadable e = refl
 
 -- ---- The numbers in a text
@@ -106,25 +98,26 @@ begins-tell n k b rest other e h =
     (same-number, ap (drop 1) (append-cancel-left (decimal k) (b ∷ rest) (b ∷ other) (rw same-number at h)))
 
 -- Two routes in one text are one: its hop, its length and its probes.
-pub hit-tells : (hop length probes hop′ length′ probes′ : ℕ) → hit hop length probes ≡ hit hop′ length′ probes′ → (hop ≡ hop′) × (length ≡ length′) × (probes ≡ probes′)
-unfolding hit digit within
-hit-tells hop length probes hop′ length′ probes′ e =
+pub route-tells : (hop length probes hop′ length′ probes′ : ℕ) → route-text hop length probes ≡ route-text hop′ length′ probes′ → (hop ≡ hop′) × (length ≡ length′) × (probes ≡ probes′)
+unfolding route-text digit within
+route-tells hop length probes hop′ length′ probes′ e =
     let its-hop = begins-tell hop hop′ 32 _ _ refl (simp append-assoc at e) in
     let its-length = begins-tell length length′ 32 _ _ refl (its-hop .1) in
     (its-hop .0, its-length .0, begins-tell probes probes′ 10 [] [] refl (its-length .1) .0)
 
 -- So is the probe count of none.
-pub miss-tells : (probes probes′ : ℕ) → miss probes ≡ miss probes′ → probes ≡ probes′
-unfolding miss digit within
-miss-tells probes probes′ e = begins-tell probes probes′ 10 [] [] refl (ap (drop 5) e) .0
+pub none-tells : (probes probes′ : ℕ) → none-text probes ≡ none-text probes′ → probes ≡ probes′
+unfolding none-text digit within
+none-tells probes probes′ e = begins-tell probes probes′ 10 [] [] refl (ap (drop 5) e) .0
 
--- And the number of a refusal.
-pub outcome-tells : (n k : ℕ) → outcome n ≡ outcome k → n ≡ k
-unfolding outcome refused digit within
-outcome-tells n k e = go (eqb n 0) (eqb k 0) refl refl e
+-- And the number that an update is told.
+pub told-number : (n : ℕ) → number-told (update-text n) ≡ n
+unfolding number-told update-text refused-text digit within
+told-number n = go (eqb n 0) refl
   where
-    go : (a b : Bool) → eqb n 0 ≡ a → eqb k 0 ≡ b → cond a (spelled "ok\n") (refused n) ≡ cond b (spelled "ok\n") (refused k) → n ≡ k
-    go true true zero-n zero-k h = eqb-true n 0 zero-n ∙ sym (eqb-true k 0 zero-k)
-    go true false zero-n more-k h = absurd (omega (arith, ap first h))
-    go false true more-n zero-k h = absurd (omega (arith, ap first h))
-    go false false more-n more-k h = begins-tell n k 10 [] [] refl (ap (drop 8) h) .0
+    go : (b : Bool) → eqb n 0 ≡ b → number-told (cond b (spelled "ok\n") (refused-text n)) ≡ n
+    go true e = sym (eqb-true n 0 e)
+    go false e = number-read n 10 [] refl
+
+pub number-tells : (n k : ℕ) → update-text n ≡ update-text k → n ≡ k
+number-tells n k e = sym (told-number n) ∙ ap number-told e ∙ told-number k

@@ -10,7 +10,7 @@ use lib.Seq.{drop-cons, drop-drop}
 use lib.Dec.{ltb, eqb}
 use borrow.Author.Tests.{lt-ltb, le-ltb, lt-leb, le-leb, leb-true}
 use Rattle.text_requests.specs.declared.Number.the-variants.{To, Absent}
-use Rattle.text_requests.specs.Shapes.{digit, front-digit, digits, value, begins-with-number, number}
+use Rattle.text_requests.specs.Shapes.{digit, front-digit, digits, value, begins-with-number, number-at}
 
 -- the digit at a position is that of its byte
 pub digit-here : (line : List ℕ) (at : ℕ) → at < length line → front-digit (drop at line) ≡ digit (getD line at 0)
@@ -80,15 +80,15 @@ module _ {line : List ℕ} {at most n end next : ℕ} (r : Read line at most n e
   }
 
   -- it makes the number too large
-  pub too-large : next < 10 → most < n * 10 + next → number line at most ≡ Absent
-  unfolding number begins-with-number value
+  pub too-large : next < 10 → most < n * 10 + next → number-at line at most ≡ Absent
+  unfolding number-at begins-with-number value
   too-large h lt =
       let g : most < value 0 (digits (drop at line)) = omega (arith, r .writes ∙ ap (value n) (one-more h), value-grows (n * 10 + next) (digits (drop (end + 1) line))) in
       simp (lt-leb _ _ g)
 
   -- no digit stands there
-  pub read-all : 10 ≤ next → number line at most ≡ cond (ltb 0 (end - at) && (eqb (end - at) 1 || not (eqb (front-digit (drop at line)) 0))) (To n end) Absent
-  unfolding number begins-with-number value
+  pub read-all : 10 ≤ next → number-at line at most ≡ cond (ltb 0 (end - at) && (eqb (end - at) 1 || not (eqb (front-digit (drop at line)) 0))) (To n end) Absent
+  unfolding number-at begins-with-number value
   read-all h =
       let none : digits (drop end line) ≡ [] = digits-end (drop end line) (omega arith) in
       let writes : value 0 (digits (drop at line)) ≡ n = r .writes ∙ ap (value n) none in
@@ -97,8 +97,8 @@ module _ {line : List ℕ} {at most n end next : ℕ} (r : Read line at most n e
       simp (writes, many, back, le-leb _ _ (r .small))
 
 -- a number that stands there is no larger than was asked
-pub number-most : (line : List ℕ) (at most : ℕ) {n end : ℕ} → number line at most ≡ To n end → n ≤ most
-unfolding number begins-with-number
+pub number-most : (line : List ℕ) (at most : ℕ) {n end : ℕ} → number-at line at most ≡ To n end → n ≤ most
+unfolding number-at begins-with-number
 number-most line at most {n} {end} = by-test (begins-with-number (drop at line) most) refl
   where
     by-test : (b : Bool) → begins-with-number (drop at line) most ≡ b → cond b (To (value 0 (digits (drop at line))) (at + length (digits (drop at line)))) Absent ≡ To n end → n ≤ most

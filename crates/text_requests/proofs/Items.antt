@@ -9,10 +9,10 @@ use lib.Seq.{drop-cons}
 use lib.Dec.{eqb}
 use Rattle.text_requests.specs.declared.Numbers.{Numbers}
 use Rattle.text_requests.specs.declared.Fit.the-variants.{To, Other}
-use Rattle.text_requests.specs.Shapes.{item, items, then}
+use Rattle.text_requests.specs.Shapes.{item, items, if-fits}
 
 module _ (shape line : List ℕ) (i at : ℕ) (ns : Numbers) where
-  pub items-more : i < length shape → items (drop i shape) line at ns ≡ then (item (getD shape i 0) line at ns) (items (drop (i + 1) shape) line)
+  pub items-more : i < length shape → items (drop i shape) line at ns ≡ if-fits (item (getD shape i 0) line at ns) (items (drop (i + 1) shape) line)
   unfolding items
   items-more h = rw (add-one, drop-cons shape i 0 h)
 

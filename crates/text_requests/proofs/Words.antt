@@ -14,7 +14,7 @@ use Rattle.text_requests.specs.declared.Fit.{Fit}
 use Rattle.text_requests.specs.declared.Fit.the-variants.{To, Other}
 use Rattle.text_requests.specs.declared.Request.{Request}
 use Rattle.text_requests.specs.declared.Request.the-variants.{Add, Drop, Move, Find, Unreadable}
-use Rattle.text_requests.specs.Shapes.{number, no-numbers, with-octet, with-length, with-hop, put-in, item, then, items, fit, add-shape, drop-shape, move-shape, find-shape, asks, request}
+use Rattle.text_requests.specs.Shapes.{number-at, no-numbers, set-octet, set-length, set-hop, put-in, item, if-fits, items, fit-shape, add-shape, drop-shape, move-shape, find-shape, asks, request}
 use Rattle.text_requests.proofs.Digits.{number-most}
 
 -- the address of a line that fits is a number of 32 bits
@@ -23,12 +23,12 @@ Word (To end ns) = ns .address < 2 ^ 32
 Word Other = Unit
 
 -- the prefix or address of a request is
-abbrev pub Words : Request → Type 0
-Words (Add p L hop) = p < 2 ^ 32
-Words (Drop p L) = p < 2 ^ 32
-Words (Move p L hop) = p < 2 ^ 32
-Words (Find address) = address < 2 ^ 32
-Words Unreadable = Unit
+abbrev pub WordSized : Request → Type 0
+WordSized (Add p L hop) = p < 2 ^ 32
+WordSized (Drop p L) = p < 2 ^ 32
+WordSized (Move p L hop) = p < 2 ^ 32
+WordSized (Find address) = address < 2 ^ 32
+WordSized Unreadable = Unit
 
 -- what holds of both branches holds, whichever the test takes
 either : {A : Type 0} (P : A → Type 0) (b : Bool) (x y : A) → P x → P y → P (cond b x y)
@@ -44,16 +44,16 @@ put-word Absent most with few small = tt
 module _ (line : List ℕ) where
   -- and so does an item
   item-word : (shape at : ℕ) (ns : Numbers) → ns .address < 2 ^ 32 → Word (item shape line at ns)
-  unfolding item with-octet with-length with-hop
+  unfolding item set-octet set-length set-hop
   item-word shape at ns word =
-      let put : (most : ℕ) (with : ℕ → Numbers) → ((n : ℕ) → n ≤ most → with n .address < 2 ^ 32) → Word (put-in (number line at most) with) =
-      λ most with small. put-word (number line at most) most with (λ n end e. number-most line at most e) small in
-      either Word (eqb shape (code "O")) _ _ (put 255 (with-octet ns) (λ n few. omega arith))
-      (either Word (eqb shape (code "L")) _ _ (put 99 (with-length ns) (λ n few. word))
-      (either Word (eqb shape (code "H")) _ _ (put (2 ^ 32 - 1) (with-hop ns) (λ n few. word))
+      let put : (most : ℕ) (with : ℕ → Numbers) → ((n : ℕ) → n ≤ most → with n .address < 2 ^ 32) → Word (put-in (number-at line at most) with) =
+      λ most with small. put-word (number-at line at most) most with (λ n end e. number-most line at most e) small in
+      either Word (eqb shape (code "O")) _ _ (put 255 (set-octet ns) (λ n few. omega arith))
+      (either Word (eqb shape (code "L")) _ _ (put 99 (set-length ns) (λ n few. word))
+      (either Word (eqb shape (code "H")) _ _ (put (2 ^ 32 - 1) (set-hop ns) (λ n few. word))
       (either Word (ltb at (length line) && eqb (getD line at 0) shape) _ _ word tt)))
 
-  then-word : (f : Fit) (rest : ℕ → Numbers → Fit) → Word f → ((end : ℕ) (ns : Numbers) → ns .address < 2 ^ 32 → Word (rest end ns)) → Word (then f rest)
+  then-word : (f : Fit) (rest : ℕ → Numbers → Fit) → Word f → ((end : ℕ) (ns : Numbers) → ns .address < 2 ^ 32 → Word (rest end ns)) → Word (if-fits f rest)
   then-word (To end ns) rest word later = later end ns word
   then-word Other rest word later = tt
 
@@ -63,23 +63,23 @@ module _ (line : List ℕ) where
   items-word [] at ns word = either Word (eqb at (length line)) _ _ word tt
   items-word (s ∷ shape) at ns word = then-word (item s line at ns) (items shape line) (item-word s at ns word) (items-word shape)
 
-  fit-word : (shape : List ℕ) → Word (fit shape line)
-  unfolding fit no-numbers
+  fit-word : (shape : List ℕ) → Word (fit-shape shape line)
+  unfolding fit-shape no-numbers
   fit-word shape = items-word shape 0 no-numbers (omega arith)
 
-  asks-words : (shape : List ℕ) (made : Numbers → Request) (other : Request) → ((ns : Numbers) → ns .address < 2 ^ 32 → Words (made ns)) → Words other
-      → Words (asks (fit shape line) made other)
-  asks-words shape made other words others = go (fit shape line) (fit-word shape)
+  asks-words : (shape : List ℕ) (made : Numbers → Request) (other : Request) → ((ns : Numbers) → ns .address < 2 ^ 32 → WordSized (made ns)) → WordSized other
+      → WordSized (asks (fit-shape shape line) made other)
+  asks-words shape made other words others = go (fit-shape shape line) (fit-word shape)
     where
-      go : (f : Fit) → Word f → Words (asks f made other)
+      go : (f : Fit) → Word f → WordSized (asks f made other)
       go (To end ns) word = words ns word
       go Other word = others
 
   -- Whatever a line's bytes are, it asks for nothing above 32 bits.
-  pub request-words : Words (request line)
+  pub request-words : WordSized (request line)
   unfolding request
   request-words =
-      either Words (ltb 64 (length line)) _ _ tt
+      either WordSized (ltb 64 (length line)) _ _ tt
       (asks-words add-shape _ _ (λ ns word. word)
       (asks-words drop-shape _ _ (λ ns word. word)
       (asks-words move-shape _ _ (λ ns word. word)

@@ -9,7 +9,7 @@ use Rattle.rules.specs.Tools.{within}
 use Rattle.text_spelling.specs.Spelling.{spelled, same-bytes}
 use Rattle.text_requests.specs.declared.Request.{Request}
 use Rattle.text_requests.specs.declared.Request.the-variants.{Add, Drop, Move, Find, Unreadable}
-use Rattle.text_requests.specs.Shapes.{digit, front-digit, digits, value, begins-with-number, number, no-numbers, with-octet, with-length, with-hop, item, items, fit, request}
+use Rattle.text_requests.specs.Shapes.{digit, front-digit, digits, value, begins-with-number, number-at, no-numbers, set-octet, set-length, set-hop, item, items, fit-shape, request}
 
 -- an address by its four octets
 abbrev ip : (a b c d : ℕ) → ℕ
@@ -79,5 +79,5 @@ worked =
     ∷ []
 
 pub worked-lines : come-out worked ≡ true
-unfolding within digit front-digit digits value begins-with-number number no-numbers with-octet with-length with-hop item items fit request
+unfolding within digit front-digit digits value begins-with-number number-at no-numbers set-octet set-length set-hop item items fit-shape request
 worked-lines = refl

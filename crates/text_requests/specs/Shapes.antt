@@ -43,8 +43,8 @@ begins-with-number bytes most =
     leb (value 0 ds) most && (ltb 0 (length ds) && (eqb (length ds) 1 || not (eqb (front-digit bytes) 0)))
 
 -- the number of at most so much that stands at a position of a line
-unfoldable pub number : (line : List ℕ) (at most : ℕ) → Number
-number line at most =
+unfoldable pub number-at : (line : List ℕ) (at most : ℕ) → Number
+number-at line at most =
     let bytes = drop at line in
     let ds = digits bytes in
     cond (begins-with-number bytes most) (Number·To (value 0 ds) (at + length ds)) Absent
@@ -56,16 +56,16 @@ unfoldable pub no-numbers : Numbers
 no-numbers = record { address = 0; length = 0; hop = 0 }
 
 -- the first octet is the highest, so each moves those before it up; an address has the last four of them
-unfoldable pub with-octet : Numbers → ℕ → Numbers
-with-octet ns n = record { address = ns .address % 2 ^ 24 * 2 ^ 8 + n; length = ns .length; hop = ns .hop }
+unfoldable pub set-octet : Numbers → ℕ → Numbers
+set-octet ns n = record { address = ns .address % 2 ^ 24 * 2 ^ 8 + n; length = ns .length; hop = ns .hop }
 
 -- with the length
-unfoldable pub with-length : Numbers → ℕ → Numbers
-with-length ns n = record { address = ns .address; length = n; hop = ns .hop }
+unfoldable pub set-length : Numbers → ℕ → Numbers
+set-length ns n = record { address = ns .address; length = n; hop = ns .hop }
 
 -- and with the hop
-unfoldable pub with-hop : Numbers → ℕ → Numbers
-with-hop ns n = record { address = ns .address; length = ns .length; hop = n }
+unfoldable pub set-hop : Numbers → ℕ → Numbers
+set-hop ns n = record { address = ns .address; length = ns .length; hop = n }
 
 -- a number that stands there fits, and is put in
 abbrev pub put-in : Number → (ℕ → Numbers) → Fit
@@ -75,24 +75,24 @@ put-in Absent with = Other
 -- what an item of a shape finds at a position: O an octet, to 255; L a length, of up to two digits; H a hop, within 32 bits; any other byte itself
 unfoldable pub item : (shape : ℕ) (line : List ℕ) (at : ℕ) → Numbers → Fit
 item shape line at ns =
-    cond (eqb shape (code "O")) (put-in (number line at 255) (with-octet ns))
-    (cond (eqb shape (code "L")) (put-in (number line at 99) (with-length ns))
-    (cond (eqb shape (code "H")) (put-in (number line at (2 ^ 32 - 1)) (with-hop ns))
+    cond (eqb shape (code "O")) (put-in (number-at line at 255) (set-octet ns))
+    (cond (eqb shape (code "L")) (put-in (number-at line at 99) (set-length ns))
+    (cond (eqb shape (code "H")) (put-in (number-at line at (2 ^ 32 - 1)) (set-hop ns))
     (cond (ltb at (length line) && eqb (getD line at 0) shape) (To (at + 1) ns) Other)))
 
 -- where an item fits, the rest of the shape goes on after it
-abbrev pub then : Fit → (ℕ → Numbers → Fit) → Fit
-then (To end ns) rest = rest end ns
-then Other rest = Other
+abbrev pub if-fits : Fit → (ℕ → Numbers → Fit) → Fit
+if-fits (To end ns) rest = rest end ns
+if-fits Other rest = Other
 
 -- items of a shape, one after the other from a position to the line's end
 unfoldable pub items : (shape line : List ℕ) (at : ℕ) → Numbers → Fit
 items [] line at ns = cond (eqb at (length line)) (To at ns) Other
-items (s ∷ shape) line at ns = then (item s line at ns) (items shape line)
+items (s ∷ shape) line at ns = if-fits (item s line at ns) (items shape line)
 
 -- the line has the shape, from its first byte to its last
-unfoldable pub fit : (shape line : List ℕ) → Fit
-fit shape line = items shape line 0 no-numbers
+unfoldable pub fit-shape : (shape line : List ℕ) → Fit
+fit-shape shape line = items shape line 0 no-numbers
 
 -- ---- Lines
 
@@ -121,7 +121,7 @@ asks Other request other = other
 unfoldable pub request : (line : List ℕ) → Request
 request line =
     cond (ltb 64 (length line)) Unreadable
-    (asks (fit add-shape line) (λ ns. Add (ns .address) (ns .length) (ns .hop))
-    (asks (fit drop-shape line) (λ ns. Drop (ns .address) (ns .length))
-    (asks (fit move-shape line) (λ ns. Move (ns .address) (ns .length) (ns .hop))
-    (asks (fit find-shape line) (λ ns. Find (ns .address)) Unreadable))))
+    (asks (fit-shape add-shape line) (λ ns. Add (ns .address) (ns .length) (ns .hop))
+    (asks (fit-shape drop-shape line) (λ ns. Drop (ns .address) (ns .length))
+    (asks (fit-shape move-shape line) (λ ns. Move (ns .address) (ns .length) (ns .hop))
+    (asks (fit-shape find-shape line) (λ ns. Find (ns .address)) Unreadable))))

@@ -2,7 +2,7 @@
 // No line is out of range: one of any bytes that has none of the four shapes is unreadable.
 ghost use mathlib.Core.Path.{_≡_};
 ghost use lib.ListN.{drop};
-ghost use Rattle.text_requests.specs.Shapes.{front-digit, number, item, fit, request};
+ghost use Rattle.text_requests.specs.Shapes.{front-digit, number-at, item, fit-shape, request};
 
 // What a line asks for.
 pub enum Request {
@@ -53,7 +53,7 @@ fn digit_at(line: &[u8], at: usize) -> u32
 
 // The decimal number of at most `most` that stands at a position, with no leading zero.
 fn number_at(line: &[u8], at: usize, most: u32) -> Number
-    ensures { λ r. ⌜ r ≡ number (now (line .entry)) at most ⌝ }
+    ensures { λ r. ⌜ r ≡ number-at (now (line .entry)) at most ⌝ }
 {
     let first = digit_at(line, at);
     let mut value: u64 = 0;
@@ -141,7 +141,7 @@ fn item_at(shape: u8, line: &[u8], at: usize, found: Numbers) -> Fit
 
 // The numbers of a line that has a shape from its first byte to its last.
 fn fit_shape(shape: &[u8], line: &[u8]) -> Fit
-    ensures { λ r. ⌜ r ≡ fit (now (shape .entry)) (now (line .entry)) ⌝ }
+    ensures { λ r. ⌜ r ≡ fit-shape (now (shape .entry)) (now (line .entry)) ⌝ }
 {
     let mut numbers = Numbers {
         address: 0,

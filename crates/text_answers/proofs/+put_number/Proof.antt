@@ -1,10 +1,9 @@
 -- `answers::put_number` meets its contract. The measure is the number: its last digit goes after those of a tenth of it.
 use Prim.Native.Nat.{ℕ, _+_, _%_, _<_}
-use mathlib.Core.Path.{ap}
 use native.Mathlib.Omega.{arith}
-use lib.ListN.{length, length-append, length-set}
+use lib.ListN.{length-set}
 use Rattle.text_answers.proofs.Puts.{put-byte, put-both, put-length}
-use Rattle.text_answers.proofs.Decimals.{decimal-one, decimal-more, decimal-fits}
+use Rattle.text_answers.proofs.Decimals.{decimal-one, decimal-more, decimal-fits, tenth-fits}
 use borrow.Fn.Kinds.{In}
 use borrow.Fn.PlainCycle.{Measures, is, falls, and}
 use Rattle.text_answers.proofs.put_number.Reads as put-number
@@ -24,46 +23,7 @@ abbrev put-number-below : ℕ → In 1 put-number-kinds.ps
 put-number-below t =
     and 1 put-number-kinds.ps (falls 1 put-number-kinds.ps _<_ μ-put-number t) put-number.Pre
 
-put-number-add-out :
-    (t : ℕ) →
-    put-number-lts.Need-add-out
-    (put-number-below t, put-number.Post)
-    (put-number-at t)
-    put-number.Post
-put-number-add-out t c = omega arith
-
-put-number-cast-out :
-    (t : ℕ) →
-    put-number-lts.Need-cast-out
-    (put-number-below t, put-number.Post)
-    (put-number-at t)
-    put-number.Post
-put-number-cast-out t c = omega arith
-
-put-number-slice-write-out : (t : ℕ) → put-number-lts.Need-slice-write-out (
-  put-number-below t,
-  put-number.Post,
-) (put-number-at t) put-number.Post
-put-number-slice-write-out t c = omega arith
-
-put-number-add-result : (t : ℕ) → put-number-lts.Need-add-result (
-  put-number-below t,
-  put-number.Post,
-) (put-number-at t) put-number.Post
-put-number-add-result t c = omega arith
-
-put-number-same-length : (t : ℕ) → put-number-lts.Need-same-length (
-  put-number-below t,
-  put-number.Post,
-) (put-number-at t) put-number.Post
-put-number-same-length t c = simp length-set
-
-put-number-returns :
-    (t : ℕ) →
-    put-number-lts.Need-returns
-    (put-number-below t, put-number.Post)
-    (put-number-at t)
-    put-number.Post
+put-number-returns : (t : ℕ) → put-number-lts.Need-returns (put-number-below t, put-number.Post) (put-number-at t) put-number.Post
 put-number-returns t c =
     let a = c .before .before .args in
     record {
@@ -71,53 +31,7 @@ put-number-returns t c =
       short = decimal-fits 9 (a .n) (omega arith);
     }
 
-put-number-put-number-requires : (t : ℕ) → put-number-lts.Need-put-number-requires (
-  put-number-below t,
-  put-number.Post,
-) (put-number-at t) put-number.Post
-put-number-put-number-requires t c κs = omega arith
-
-put-number-add-out-2 : (t : ℕ) → put-number-lts.Need-add-out-2 (
-  put-number-below t,
-  put-number.Post,
-) (put-number-at t) put-number.Post
-put-number-add-out-2 t c = omega arith
-
-put-number-cast-out-2 : (t : ℕ) → put-number-lts.Need-cast-out-2 (
-  put-number-below t,
-  put-number.Post,
-) (put-number-at t) put-number.Post
-put-number-cast-out-2 t c = omega arith
-
-put-number-slice-write-out-2 : (t : ℕ) → put-number-lts.Need-slice-write-out-2 (
-  put-number-below t,
-  put-number.Post,
-) (put-number-at t) put-number.Post
-put-number-slice-write-out-2 t c =
-    let a = c .before .before .before .before .before .before .args in
-    let more = simp length-append at (ap length (decimal-more (a .n) (c .before .before .before .before .if1 .left))) in
-    omega (arith, decimal-fits 9 (a .n) (omega arith), put-length (c .before .before .put-number .ensures .put))
-
-put-number-add-result-2 : (t : ℕ) → put-number-lts.Need-add-result-2 (
-  put-number-below t,
-  put-number.Post,
-) (put-number-at t) put-number.Post
-put-number-add-result-2 t c =
-    let a = c .before .before .before .before .before .before .args in
-    let more = simp length-append at (ap length (decimal-more (a .n) (c .before .before .before .before .if1 .left))) in
-    omega (arith, decimal-fits 9 (a .n) (omega arith), put-length (c .before .before .put-number .ensures .put))
-
-put-number-same-length-2 : (t : ℕ) → put-number-lts.Need-same-length-2 (
-  put-number-below t,
-  put-number.Post,
-) (put-number-at t) put-number.Post
-put-number-same-length-2 t c =
-    simp length-set (put-length (c .before .before .put-number .ensures .put))
-
-put-number-returns-2 : (t : ℕ) → put-number-lts.Need-returns-2 (
-  put-number-below t,
-  put-number.Post,
-) (put-number-at t) put-number.Post
+put-number-returns-2 : (t : ℕ) → put-number-lts.Need-returns-2 (put-number-below t, put-number.Post) (put-number-at t) put-number.Post
 put-number-returns-2 t c =
     let a = c .before .before .before .before .before .before .args in
     record {
@@ -128,22 +42,17 @@ put-number-returns-2 t c =
     }
 
 pub +put-number-spec : {M : Type 1} → statement M
-+put-number-spec = close μ-put-number λ t. put-number-lts.spec (
-  put-number-below t,
-  put-number.Post,
-)
-    (put-number-at t)
-    put-number.Post
-    (put-number-add-out t)
-    (put-number-cast-out t)
-    (put-number-slice-write-out t)
-    (put-number-add-result t)
-    (put-number-same-length t)
++put-number-spec = close μ-put-number λ t. put-number-lts.spec (put-number-below t, put-number.Post) (put-number-at t) put-number.Post
+    (λ c. omega arith)
+    (λ c. omega arith)
+    (λ c. omega arith)
+    (λ c. omega arith)
+    (λ c. simp length-set)
     (put-number-returns t)
-    (put-number-put-number-requires t)
-    (put-number-add-out-2 t)
-    (put-number-cast-out-2 t)
-    (put-number-slice-write-out-2 t)
-    (put-number-add-result-2 t)
-    (put-number-same-length-2 t)
+    (λ c κs. omega arith)
+    (λ c. omega arith)
+    (λ c. omega arith)
+    (λ c. let a = c .before .before .before .before .before .before .args in omega (arith, tenth-fits (a .n) (omega arith), put-length (c .before .before .put-number .ensures .put)))
+    (λ c. let a = c .before .before .before .before .before .before .args in omega (arith, tenth-fits (a .n) (omega arith), put-length (c .before .before .put-number .ensures .put)))
+    (λ c. simp length-set (put-length (c .before .before .put-number .ensures .put)))
     (put-number-returns-2 t)

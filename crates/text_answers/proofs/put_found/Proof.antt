@@ -3,53 +3,17 @@ use native.Mathlib.Omega.{arith}
 use borrow.Author.Needs.{needs}
 use borrow.Author.Tests.{eq-eqb, ne-eqb}
 use lib.ListN.{length-append}
-use Rattle.text_answers.specs.Texts.{hit, miss, found}
+use Rattle.text_answers.specs.Texts.{route-text, none-text, lookup-text}
 use Rattle.text_answers.proofs.Puts.{put-both}
 use Rattle.text_answers.proofs.put_found.Statement.{statement}
 use Rattle.text_answers.proofs.put_found.Tie as tie
 
-put-outcome-requires : tie.Need-put-outcome-requires
-put-outcome-requires c κs = search needs
-
-same-length : tie.Need-same-length
-same-length c = search needs
-
 returns : tie.Need-returns
-unfolding found
+unfolding lookup-text
 returns c = rw (ne-eqb _ _ (c .before .before .before .before .if1 .taken)) (c .before .before .put-outcome .ensures)
 
-put-number-requires : tie.Need-put-number-requires
-put-number-requires c κs = search needs
-
-slice-aggregate-put : tie.Need-slice-aggregate-put
-slice-aggregate-put c = search needs
-
-put-requires : tie.Need-put-requires
-put-requires c κs = search needs
-
-put-number-requires-2 : tie.Need-put-number-requires-2
-put-number-requires-2 c κs = search needs
-
-slice-aggregate-put-2 : tie.Need-slice-aggregate-put-2
-slice-aggregate-put-2 c = search needs
-
-put-requires-2 : tie.Need-put-requires-2
-put-requires-2 c κs = search needs
-
-put-number-requires-3 : tie.Need-put-number-requires-3
-put-number-requires-3 c κs = search needs
-
-slice-aggregate-put-3 : tie.Need-slice-aggregate-put-3
-slice-aggregate-put-3 c = search needs
-
-put-requires-3 : tie.Need-put-requires-3
-put-requires-3 c κs = search needs
-
-same-length-2 : tie.Need-same-length-2
-same-length-2 c = search needs
-
 returns-2 : tie.Need-returns-2
-unfolding found hit
+unfolding lookup-text route-text
 returns-2 c =
     let e = c .before .before in
     let probes = e .before .before .before .before .before in
@@ -71,26 +35,8 @@ returns-2 c =
       short = simp length-append (omega (arith, hop, length, probes));
     })
 
-slice-aggregate-put-4 : tie.Need-slice-aggregate-put-4
-slice-aggregate-put-4 c = search needs
-
-put-requires-4 : tie.Need-put-requires-4
-put-requires-4 c κs = search needs
-
-put-number-requires-4 : tie.Need-put-number-requires-4
-put-number-requires-4 c κs = search needs
-
-slice-aggregate-put-5 : tie.Need-slice-aggregate-put-5
-slice-aggregate-put-5 c = search needs
-
-put-requires-5 : tie.Need-put-requires-5
-put-requires-5 c κs = search needs
-
-same-length-3 : tie.Need-same-length-3
-same-length-3 c = search needs
-
 returns-3 : tie.Need-returns-3
-unfolding found miss
+unfolding lookup-text none-text
 returns-3 c =
     let e = c .before .before in
     let probes = e .before .before .before .before .before in
@@ -106,24 +52,24 @@ pub put-found-spec : {M : Type 1} → statement M
 put-found-spec =
     tie.close
     (tie.spec
-    put-outcome-requires
-    same-length
+    (λ c κs. search needs)
+    (λ c. search needs)
     returns
-    put-number-requires
-    slice-aggregate-put
-    put-requires
-    put-number-requires-2
-    slice-aggregate-put-2
-    put-requires-2
-    put-number-requires-3
-    slice-aggregate-put-3
-    put-requires-3
-    same-length-2
+    (λ c κs. search needs)
+    (λ c. search needs)
+    (λ c κs. search needs)
+    (λ c κs. search needs)
+    (λ c. search needs)
+    (λ c κs. search needs)
+    (λ c κs. search needs)
+    (λ c. search needs)
+    (λ c κs. search needs)
+    (λ c. search needs)
     returns-2
-    slice-aggregate-put-4
-    put-requires-4
-    put-number-requires-4
-    slice-aggregate-put-5
-    put-requires-5
-    same-length-3
+    (λ c. search needs)
+    (λ c κs. search needs)
+    (λ c κs. search needs)
+    (λ c. search needs)
+    (λ c κs. search needs)
+    (λ c. search needs)
     returns-3)

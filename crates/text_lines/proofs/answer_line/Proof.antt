@@ -4,15 +4,9 @@ use native.Mathlib.Omega.{arith}
 use borrow.Author.Needs.{needs}
 use borrow.Author.Tests.{leb-true}
 use Rattle.rules.proofs.Told.{told-false, told-true}
-use Rattle.text_lines.specs.Lines.{fits, answer-line}
+use Rattle.text_lines.specs.Lines.{answer-fits, answer-line}
 use Rattle.text_lines.proofs.answer_line.Statement.{statement}
 use Rattle.text_lines.proofs.answer_line.Tie as tie
-
-has-room-at-requires : tie.Need-has-room-at-requires
-has-room-at-requires c κs = search needs
-
-same-length : tie.Need-same-length
-same-length c = search needs
 
 returns : tie.Need-returns
 unfolding answer-line
@@ -20,26 +14,17 @@ returns c =
     rw (told-false (c .before .has-room-at .ensures) (c .if1 .taken))
     (record {
       refused-is = refl;
-      answered = record {
+      replied = record {
         memory-is = refl;
         put = record { put = record { holds = refl; end = omega arith }; short = omega arith };
       };
     })
 
 answer-into-requires : tie.Need-answer-into-requires
-unfolding fits
+unfolding answer-fits
 answer-into-requires c κs =
     let test = c .before .before .before in
     leb-true _ _ (told-true (test .before .has-room-at .ensures) (test .if1 .left))
-
-same-length-2 : tie.Need-same-length-2
-same-length-2 c = search needs
-
-same-length-3 : tie.Need-same-length-3
-same-length-3 c = search needs
-
-same-length-4 : tie.Need-same-length-4
-same-length-4 c = search needs
 
 returns-2 : tie.Need-returns-2
 unfolding answer-line
@@ -47,17 +32,17 @@ returns-2 c =
     let call = c .before .before .before .before .before .before in
     let test = call .before .before .before .before in
     rw (told-true (test .before .has-room-at .ensures) (test .if1 .left))
-    (record { refused-is = refl; answered = call .answer-into .ensures })
+    (record { refused-is = refl; replied = call .answer-into .ensures })
 
 pub answer-line-spec : {M : Type 1} → statement M
 answer-line-spec =
     tie.close
     (tie.spec
-    has-room-at-requires
-    same-length
+    (λ c κs. search needs)
+    (λ c. search needs)
     returns
     answer-into-requires
-    same-length-2
-    same-length-3
-    same-length-4
+    (λ c. search needs)
+    (λ c. search needs)
+    (λ c. search needs)
     returns-2)

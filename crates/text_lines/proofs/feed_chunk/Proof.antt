@@ -8,15 +8,6 @@ use Rattle.text_lines.proofs.Streams.{lies-going}
 use Rattle.text_lines.proofs.feed_chunk.Statement.{statement}
 use Rattle.text_lines.proofs.feed_chunk.Tie as tie
 
-has-room-requires : tie.Need-has-room-requires
-has-room-requires c κs = search needs
-
-same-length : tie.Need-same-length
-same-length c = search needs
-
-same-length-2 : tie.Need-same-length-2
-same-length-2 c = search needs
-
 returns : tie.Need-returns
 unfolding feed-chunk
 returns c = rw (told-false (c .before .has-room .ensures) (c .if1 .taken)) (lies-going true _ _ _ _)
@@ -25,18 +16,6 @@ feed-into-requires : tie.Need-feed-into-requires
 feed-into-requires c κs =
     let test = c .before .before .before .before in
     room-of (told-true (test .before .has-room .ensures) (test .if1 .left))
-
-same-length-3 : tie.Need-same-length-3
-same-length-3 c = search needs
-
-same-length-4 : tie.Need-same-length-4
-same-length-4 c = search needs
-
-same-length-5 : tie.Need-same-length-5
-same-length-5 c = search needs
-
-same-length-6 : tie.Need-same-length-6
-same-length-6 c = search needs
 
 returns-2 : tie.Need-returns-2
 unfolding feed-chunk
@@ -49,13 +28,13 @@ pub feed-chunk-spec : {M : Type 1} → statement M
 feed-chunk-spec =
     tie.close
     (tie.spec
-    has-room-requires
-    same-length
-    same-length-2
+    (λ c κs. search needs)
+    (λ c. search needs)
+    (λ c. search needs)
     returns
     feed-into-requires
-    same-length-3
-    same-length-4
-    same-length-5
-    same-length-6
+    (λ c. search needs)
+    (λ c. search needs)
+    (λ c. search needs)
+    (λ c. search needs)
     returns-2)

@@ -34,31 +34,10 @@ loop-holds c =
       lies = lies-going false _ _ _ _;
     }
 
-shared-slice-read-b : tie.Need-shared-slice-read-b Inv-loop μ-loop
-shared-slice-read-b c = search needs
-
-add-next : tie.Need-add-next Inv-loop μ-loop
-add-next c = search needs
-
-slice-reshare-prefix-answer-into : tie.Need-slice-reshare-prefix-answer-into Inv-loop μ-loop
-slice-reshare-prefix-answer-into c = search needs
-
 slice-aggregate-answer-into : tie.Need-slice-aggregate-answer-into Inv-loop μ-loop
 slice-aggregate-answer-into c =
     let l = c .before .before .before .before .before .before .loop in
     omega (arith, length-take-le (l .count) (l .line) (omega arith))
-
-answer-into-requires : tie.Need-answer-into-requires Inv-loop μ-loop
-answer-into-requires c κs = search needs
-
-slice-write-line : tie.Need-slice-write-line Inv-loop μ-loop
-slice-write-line c = search needs
-
-add-count : tie.Need-add-count Inv-loop μ-loop
-add-count c = search needs
-
-loop-less : tie.Need-loop-less Inv-loop μ-loop
-loop-less c = search needs
 
 loop-again : tie.Need-loop-again Inv-loop μ-loop
 loop-again c =
@@ -76,9 +55,6 @@ loop-again c =
       lies = rw (feed-more _ _ _ _ (turn .loop-test .taken)) (lies-ended _ (now .lies) (c .before .before .before .before .before .before .before .before .before .before .before .if1 .taken) (search needs) a);
     }
 
-loop-less-2 : tie.Need-loop-less-2 Inv-loop μ-loop
-loop-less-2 c = search needs
-
 loop-again-2 : tie.Need-loop-again-2 Inv-loop μ-loop
 loop-again-2 c =
     let turn = c .before .before .before in
@@ -93,9 +69,6 @@ loop-again-2 c =
       out-long = now .out-long;
       lies = rw (feed-more _ _ _ _ (turn .loop-test .taken)) (lies-kept _ (now .lies) (c .before .if1 .left) (c .if2 .taken));
     }
-
-loop-less-3 : tie.Need-loop-less-3 Inv-loop μ-loop
-loop-less-3 c = search needs
 
 loop-again-3 : tie.Need-loop-again-3 Inv-loop μ-loop
 loop-again-3 c =
@@ -112,18 +85,6 @@ loop-again-3 c =
       lies = rw (feed-more _ _ _ _ (turn .loop-test .taken)) (lies-left-out _ (now .lies) (c .before .if1 .left) (c .if2 .left));
     }
 
-same-length : tie.Need-same-length Inv-loop μ-loop
-same-length c = search needs
-
-same-length-2 : tie.Need-same-length-2 Inv-loop μ-loop
-same-length-2 c = search needs
-
-same-length-3 : tie.Need-same-length-3 Inv-loop μ-loop
-same-length-3 c = search needs
-
-same-length-4 : tie.Need-same-length-4 Inv-loop μ-loop
-same-length-4 c = search needs
-
 returns : tie.Need-returns Inv-loop μ-loop
 returns c =
     let a = c .before .before .before .before .before .before .before .args in
@@ -138,21 +99,21 @@ feed-into-spec =
     Inv-loop
     μ-loop
     loop-holds
-    shared-slice-read-b
-    add-next
-    slice-reshare-prefix-answer-into
+    (λ c. search needs)
+    (λ c. search needs)
+    (λ c. search needs)
     slice-aggregate-answer-into
-    answer-into-requires
-    slice-write-line
-    add-count
-    loop-less
+    (λ c κs. search needs)
+    (λ c. search needs)
+    (λ c. search needs)
+    (λ c. search needs)
     loop-again
-    loop-less-2
+    (λ c. search needs)
     loop-again-2
-    loop-less-3
+    (λ c. search needs)
     loop-again-3
-    same-length
-    same-length-2
-    same-length-3
-    same-length-4
+    (λ c. search needs)
+    (λ c. search needs)
+    (λ c. search needs)
+    (λ c. search needs)
     returns)

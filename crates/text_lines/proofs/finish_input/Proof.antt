@@ -11,18 +11,9 @@ use Rattle.text_lines.proofs.Streams.{lies-going, lies-answered}
 use Rattle.text_lines.proofs.finish_input.Statement.{statement}
 use Rattle.text_lines.proofs.finish_input.Tie as tie
 
-has-room-requires : tie.Need-has-room-requires
-has-room-requires c κs = search needs
-
-same-length : tie.Need-same-length
-same-length c = search needs
-
 returns : tie.Need-returns
 unfolding finish-input
 returns c = rw (told-false (c .before .has-room .ensures) (c .if1 .taken)) (lies-going true _ _ _ _)
-
-same-length-2 : tie.Need-same-length-2
-same-length-2 c = search needs
 
 returns-2 : tie.Need-returns-2
 unfolding finish-input finish
@@ -42,15 +33,6 @@ answer-into-requires c κs =
     let test = c .before .before .before .before .before in
     room-of (told-true (test .before .has-room .ensures) (test .if1 .left)) .out-room
 
-same-length-3 : tie.Need-same-length-3
-same-length-3 c = search needs
-
-same-length-4 : tie.Need-same-length-4
-same-length-4 c = search needs
-
-same-length-5 : tie.Need-same-length-5
-same-length-5 c = search needs
-
 returns-3 : tie.Need-returns-3
 unfolding finish-input finish
 returns-3 c =
@@ -65,14 +47,14 @@ pub finish-input-spec : {M : Type 1} → statement M
 finish-input-spec =
     tie.close
     (tie.spec
-    has-room-requires
-    same-length
+    (λ c κs. search needs)
+    (λ c. search needs)
     returns
-    same-length-2
+    (λ c. search needs)
     returns-2
     slice-aggregate-answer-into
     answer-into-requires
-    same-length-3
-    same-length-4
-    same-length-5
+    (λ c. search needs)
+    (λ c. search needs)
+    (λ c. search needs)
     returns-3)

@@ -7,9 +7,6 @@ use Rattle.text_requests.proofs.Digits.{digit-here, digit-past}
 use Rattle.text_requests.proofs.digit_at.Statement.{statement}
 use Rattle.text_requests.proofs.digit_at.Tie as tie
 
-shared-slice-read-b : tie.Need-shared-slice-read-b
-shared-slice-read-b c = search needs
-
 returns : tie.Need-returns
 unfolding digit within
 returns c =
@@ -23,12 +20,6 @@ returns-2 c =
     let a = c .before .before .before .before .args in
     let i = c .before .before .before .if1 .taken in
     simp (digit-here (a .line .now) (a .at) i, le-leb _ _ (c .before .if2 .left), lt-leb _ _ (c .if3 .taken))
-
-cast-result : tie.Need-cast-result
-cast-result c = search needs
-
-sub-result : tie.Need-sub-result
-sub-result c = search needs
 
 returns-3 : tie.Need-returns-3
 unfolding digit within
@@ -45,4 +36,4 @@ returns-4 c =
 pub digit-at-spec : {M : Type 1} → statement M
 digit-at-spec =
     tie.close
-    (tie.spec shared-slice-read-b returns returns-2 cast-result sub-result returns-3 returns-4)
+    (tie.spec (λ c. search needs) returns returns-2 (λ c. search needs) (λ c. search needs) returns-3 returns-4)

@@ -5,32 +5,20 @@ use native.Mathlib.Omega.{arith}
 use borrow.Author.Needs.{needs}
 use borrow.Author.Tests.{eq-eqb, ne-eqb}
 use lib.ListN.{length, drop}
-use Rattle.text_requests.specs.Shapes.{no-numbers, items, fit}
+use Rattle.text_requests.specs.Shapes.{no-numbers, items, fit-shape}
 use Rattle.text_requests.proofs.Items.{items-more, items-end}
 use Rattle.text_requests.proofs.fit_shape.Statement.{statement}
 use Rattle.text_requests.proofs.fit_shape.Tie as tie
 
 abbrev Inv-loop : tie.InvT-loop
-Inv-loop shape line numbers₀ at₀ i₀ numbers at i = (i ≤ length shape) × (fit shape line ≡ items (drop i shape) line at numbers)
+Inv-loop shape line numbers₀ at₀ i₀ numbers at i = (i ≤ length shape) × (fit-shape shape line ≡ items (drop i shape) line at numbers)
 
 abbrev μ-loop : tie.MeasureT-loop
 μ-loop shape line numbers₀ at₀ i₀ numbers at i = length shape - i
 
 loop-holds : tie.Need-loop-holds Inv-loop μ-loop
-unfolding fit no-numbers
+unfolding fit-shape no-numbers
 loop-holds c = (omega arith, refl)
-
-shared-slice-read-item-at : tie.Need-shared-slice-read-item-at Inv-loop μ-loop
-shared-slice-read-item-at c = search needs
-
-item-at-requires : tie.Need-item-at-requires Inv-loop μ-loop
-item-at-requires c κs = search needs
-
-enum-known-end : tie.Need-enum-known-end Inv-loop μ-loop
-enum-known-end c = search needs
-
-enum-told : tie.Need-enum-told Inv-loop μ-loop
-enum-told c = search needs
 
 returns : tie.Need-returns Inv-loop μ-loop
 returns c =
@@ -39,12 +27,6 @@ returns c =
     let told = sym (c .before .before .item-at .ensures) ∙ c .enum-told .given .1 in
     let more = items-more (a .shape .now) (a .line .now) (l .i) (l .at) (l .numbers) (c .before .before .before .before .loop-test .taken) in
     simp (l .inv .1, more, told)
-
-add-i : tie.Need-add-i Inv-loop μ-loop
-add-i c = search needs
-
-loop-less : tie.Need-loop-less Inv-loop μ-loop
-loop-less c = search needs
 
 loop-again : tie.Need-loop-again Inv-loop μ-loop
 loop-again c =
@@ -73,13 +55,13 @@ fit-shape-spec =
     Inv-loop
     μ-loop
     loop-holds
-    shared-slice-read-item-at
-    item-at-requires
-    enum-known-end
-    enum-told
+    (λ c. search needs)
+    (λ c κs. search needs)
+    (λ c. search needs)
+    (λ c. search needs)
     returns
-    add-i
-    loop-less
+    (λ c. search needs)
+    (λ c. search needs)
     loop-again
     returns-2
     returns-3)

@@ -3,87 +3,51 @@ use mathlib.Core.Path.{sym, _∙_}
 use native.Mathlib.Omega.{arith}
 use borrow.Author.Needs.{needs}
 use borrow.Author.Tests.{eq-eqb, ne-eqb, lt-ltb, le-ltb}
-use Rattle.text_requests.specs.Shapes.{item, with-octet, with-length, with-hop}
+use Rattle.text_requests.specs.Shapes.{item, set-octet, set-length, set-hop}
 use Rattle.text_requests.proofs.Digits.{number-most}
 use Rattle.text_requests.proofs.item_at.Statement.{statement}
 use Rattle.text_requests.proofs.item_at.Tie as tie
-
-number-at-requires : tie.Need-number-at-requires
-number-at-requires c κs = search needs
-
-enum-known-value : tie.Need-enum-known-value
-enum-known-value c = search needs
-
-mul-t15 : tie.Need-mul-t15
-mul-t15 c = search needs
 
 add-t16 : tie.Need-add-t16
 add-t16 c =
     let a = c .before .before .before .before .before .before .before .args in
     omega (arith, number-most (a .line .now) (a .at) 255 (sym (c .before .before .before .before .number-at .ensures) ∙ c .before .before .value .given .1))
 
-enum-told : tie.Need-enum-told
-enum-told c = search needs
-
 returns : tie.Need-returns
-unfolding item with-octet with-length with-hop
+unfolding item set-octet set-length set-hop
 returns c =
     let told = sym (c .before .before .before .before .number-at .ensures) ∙ c .before .before .value .given .1 in
     simp (eq-eqb _ _ (c .before .before .before .before .before .if1 .taken), told)
 
 returns-2 : tie.Need-returns-2
-unfolding item with-octet with-length with-hop
+unfolding item set-octet set-length set-hop
 returns-2 c =
     let told = sym (c .before .before .number-at .ensures) ∙ c .enum-told .given .1 in
     simp (eq-eqb _ _ (c .before .before .before .if1 .taken), told)
 
-number-at-requires-2 : tie.Need-number-at-requires-2
-number-at-requires-2 c κs = search needs
-
-enum-known-value-2 : tie.Need-enum-known-value-2
-enum-known-value-2 c = search needs
-
-enum-told-2 : tie.Need-enum-told-2
-enum-told-2 c = search needs
-
 returns-3 : tie.Need-returns-3
-unfolding item with-octet with-length with-hop
+unfolding item set-octet set-length set-hop
 returns-3 c =
     let told = sym (c .before .before .before .number-at2 .ensures) ∙ c .before .value2 .given .1 in
     simp (ne-eqb _ _ (c .before .before .before .before .before .if1 .left), eq-eqb _ _ (c .before .before .before .before .if2 .taken), told)
 
 returns-4 : tie.Need-returns-4
-unfolding item with-octet with-length with-hop
+unfolding item set-octet set-length set-hop
 returns-4 c =
     let told = sym (c .before .before .number-at2 .ensures) ∙ c .enum-told2 .given .1 in
     simp (ne-eqb _ _ (c .before .before .before .before .if1 .left), eq-eqb _ _ (c .before .before .before .if2 .taken), told)
 
-number-at-requires-3 : tie.Need-number-at-requires-3
-number-at-requires-3 c κs = search needs
-
-enum-known-value-3 : tie.Need-enum-known-value-3
-enum-known-value-3 c = search needs
-
-enum-told-3 : tie.Need-enum-told-3
-enum-told-3 c = search needs
-
 returns-5 : tie.Need-returns-5
-unfolding item with-octet with-length with-hop
+unfolding item set-octet set-length set-hop
 returns-5 c =
     let told = sym (c .before .before .before .number-at3 .ensures) ∙ c .before .value3 .given .1 in
     simp (ne-eqb _ _ (c .before .before .before .before .before .before .if1 .left), ne-eqb _ _ (c .before .before .before .before .before .if2 .left), eq-eqb _ _ (c .before .before .before .before .if3 .taken), told)
 
 returns-6 : tie.Need-returns-6
-unfolding item with-octet with-length with-hop
+unfolding item set-octet set-length set-hop
 returns-6 c =
     let told = sym (c .before .before .number-at3 .ensures) ∙ c .enum-told3 .given .1 in
     simp (ne-eqb _ _ (c .before .before .before .before .before .if1 .left), ne-eqb _ _ (c .before .before .before .before .if2 .left), eq-eqb _ _ (c .before .before .before .if3 .taken), told)
-
-shared-slice-read-if5 : tie.Need-shared-slice-read-if5
-shared-slice-read-if5 c = search needs
-
-add-t28 : tie.Need-add-t28
-add-t28 c = search needs
 
 returns-7 : tie.Need-returns-7
 unfolding item
@@ -101,25 +65,25 @@ pub item-at-spec : {M : Type 1} → statement M
 item-at-spec =
     tie.close
     (tie.spec
-    number-at-requires
-    enum-known-value
-    mul-t15
+    (λ c κs. search needs)
+    (λ c. search needs)
+    (λ c. search needs)
     add-t16
-    enum-told
+    (λ c. search needs)
     returns
     returns-2
-    number-at-requires-2
-    enum-known-value-2
-    enum-told-2
+    (λ c κs. search needs)
+    (λ c. search needs)
+    (λ c. search needs)
     returns-3
     returns-4
-    number-at-requires-3
-    enum-known-value-3
-    enum-told-3
+    (λ c κs. search needs)
+    (λ c. search needs)
+    (λ c. search needs)
     returns-5
     returns-6
-    shared-slice-read-if5
-    add-t28
+    (λ c. search needs)
+    (λ c. search needs)
     returns-7
     returns-8
     returns-9)

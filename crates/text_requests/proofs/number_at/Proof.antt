@@ -16,11 +16,6 @@ Inv-loop line at most first value₀ end₀ next₀ value end next = Read line a
 abbrev μ-loop : tie.MeasureT-loop
 μ-loop line at most first value₀ end₀ next₀ value end next = length line - end
 
--- src/lib.rt:77:9
-digit-at-requires : tie.Need-digit-at-requires Inv-loop μ-loop
-digit-at-requires c κs = search needs
-
--- src/lib.rt:81:5
 loop-holds : tie.Need-loop-holds Inv-loop μ-loop
 loop-holds c = record {
   forward = omega arith;
@@ -30,25 +25,11 @@ loop-holds c = record {
   small = omega arith;
 }
 
--- src/lib.rt:82:17
-mul-value : tie.Need-mul-value Inv-loop μ-loop
-mul-value c = omega arith
-
--- src/lib.rt:82:30
-cast-value : tie.Need-cast-value Inv-loop μ-loop
-cast-value c = omega arith
-
--- src/lib.rt:82:17
-add-value : tie.Need-add-value Inv-loop μ-loop
-add-value c = omega arith
-
--- src/lib.rt:84:13
 returns : tie.Need-returns Inv-loop μ-loop
 returns c =
     let l = c .before .before .loop in
     sym (too-large (l .inv) (c .before .loop-test .taken) (c .if1 .taken))
 
--- src/lib.rt:86:9
 add-end : tie.Need-add-end Inv-loop μ-loop
 add-end c =
     let l = c .before .before .loop in
@@ -56,11 +37,6 @@ add-end c =
     let h : front-digit (drop (l .end) (a .line .now)) < 10 = omega arith in
     omega (arith, digit-within (a .line .now) (l .end) h)
 
--- src/lib.rt:87:9
-digit-at-requires-2 : tie.Need-digit-at-requires-2 Inv-loop μ-loop
-digit-at-requires-2 c κs = search needs
-
--- src/lib.rt:81:5
 loop-less : tie.Need-loop-less Inv-loop μ-loop
 loop-less c =
     let l = c .before .before .before .loop in
@@ -68,13 +44,11 @@ loop-less c =
     let h : front-digit (drop (l .end) (a .line .now)) < 10 = omega arith in
     omega (arith, digit-within (a .line .now) (l .end) h)
 
--- src/lib.rt:81:5
 loop-again : tie.Need-loop-again Inv-loop μ-loop
 loop-again c =
     read-more (c .before .before .before .loop .inv) _ (c .before .before .loop-test .taken) (c .before .if1 .left)
     (c .digit-at2 .ensures)
 
--- src/lib.rt:90:9
 returns-2 : tie.Need-returns-2 Inv-loop μ-loop
 returns-2 c =
     let l = c .before .before .loop in
@@ -82,15 +56,6 @@ returns-2 c =
     let none : l .end - a .at ≤ 0 = omega arith in
     simp (read-all (l .inv) (c .before .loop-test .left), le-ltb _ _ none)
 
--- src/lib.rt:92:18
-sub-digits : tie.Need-sub-digits Inv-loop μ-loop
-sub-digits c = omega arith
-
--- src/lib.rt:94:16
-cast-t14 : tie.Need-cast-t14 Inv-loop μ-loop
-cast-t14 c = omega arith
-
--- src/lib.rt:98:9
 returns-3 : tie.Need-returns-3 Inv-loop μ-loop
 returns-3 c =
     let l = c .before .before .before .loop in
@@ -98,7 +63,6 @@ returns-3 c =
     let some : 0 < l .end - a .at = omega arith in
     simp (read-all (l .inv) (c .before .before .loop-test .left), lt-ltb _ _ some, eq-eqb _ _ (c .if3 .taken))
 
--- src/lib.rt:101:9
 returns-4 : tie.Need-returns-4 Inv-loop μ-loop
 returns-4 c =
     let l = c .before .before .before .before .loop in
@@ -107,7 +71,6 @@ returns-4 c =
     let first = sym (c .before .before .before .before .before .digit-at .ensures) in
     simp (read-all (l .inv) (c .before .before .before .loop-test .left), lt-ltb _ _ some, ne-eqb _ _ (c .before .if3 .left), eq-eqb _ _ (first ∙ c .if4 .taken))
 
--- src/lib.rt:74:1
 returns-5 : tie.Need-returns-5 Inv-loop μ-loop
 returns-5 c =
     let l = c .before .before .before .before .loop in
@@ -122,19 +85,19 @@ number-at-spec =
     (tie.spec
     Inv-loop
     μ-loop
-    digit-at-requires
+    (λ c κs. search needs)
     loop-holds
-    mul-value
-    cast-value
-    add-value
+    (λ c. omega arith)
+    (λ c. omega arith)
+    (λ c. omega arith)
     returns
     add-end
-    digit-at-requires-2
+    (λ c κs. search needs)
     loop-less
     loop-again
     returns-2
-    sub-digits
-    cast-t14
+    (λ c. omega arith)
+    (λ c. omega arith)
     returns-3
     returns-4
     returns-5)

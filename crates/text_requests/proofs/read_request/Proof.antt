@@ -3,34 +3,25 @@ use mathlib.Core.Path.{_≡_, sym, _∙_}
 use borrow.Author.Needs.{needs}
 use borrow.Author.Tests.{lt-ltb, le-ltb}
 use Rattle.text_requests.specs.declared.Fit.the-variants.{Other}
-use Rattle.text_requests.specs.Shapes.{fit, request, add-shape, drop-shape, move-shape, find-shape}
+use Rattle.text_requests.specs.Shapes.{fit-shape, request, add-shape, drop-shape, move-shape, find-shape}
 use Rattle.text_requests.proofs.read_request.Statement.{statement}
 use Rattle.text_requests.proofs.read_request.Tie as tie
 
-not-add : (c : tie.After-enum-told) → fit add-shape (c .before .before .before .before .before .before .args .line .now) ≡ Other
+not-add : (c : tie.After-enum-told) → fit-shape add-shape (c .before .before .before .before .before .before .args .line .now) ≡ Other
 not-add c = sym (c .before .before .fit-shape .ensures) ∙ c .enum-told .given .1
 
-not-drop : (c : tie.After-enum-told2) → fit drop-shape (c .before .before .before .before .before .before .before .before .before .before .args .line .now) ≡ Other
+not-drop : (c : tie.After-enum-told2) → fit-shape drop-shape (c .before .before .before .before .before .before .before .before .before .before .args .line .now) ≡ Other
 not-drop c = sym (c .before .before .fit-shape2 .ensures) ∙ c .enum-told2 .given .1
 
-not-move : (c : tie.After-enum-told3) → fit move-shape (c .before .before .before .before .before .before .before .before .before .before .before .before .before .before .args .line .now) ≡ Other
+not-move : (c : tie.After-enum-told3) → fit-shape move-shape (c .before .before .before .before .before .before .before .before .before .before .before .before .before .before .args .line .now) ≡ Other
 not-move c = sym (c .before .before .fit-shape3 .ensures) ∙ c .enum-told3 .given .1
 
-not-find : (c : tie.After-enum-told4) → fit find-shape (c .before .before .before .before .before .before .before .before .before .before .before .before .before .before .before .before .before .before .args .line .now) ≡ Other
+not-find : (c : tie.After-enum-told4) → fit-shape find-shape (c .before .before .before .before .before .before .before .before .before .before .before .before .before .before .before .before .before .before .args .line .now) ≡ Other
 not-find c = sym (c .before .before .fit-shape4 .ensures) ∙ c .enum-told4 .given .1
 
 returns : tie.Need-returns
 unfolding request
 returns c = simp (lt-ltb _ _ (c .if1 .taken))
-
-slice-aggregate-fit-shape : tie.Need-slice-aggregate-fit-shape
-slice-aggregate-fit-shape c = search needs
-
-fit-shape-requires : tie.Need-fit-shape-requires
-fit-shape-requires c κs = search needs
-
-enum-known-numbers : tie.Need-enum-known-numbers
-enum-known-numbers c = search needs
 
 returns-2 : tie.Need-returns-2
 unfolding request
@@ -38,35 +29,11 @@ returns-2 c =
     simp
     (le-ltb _ _ (c .before .before .before .before .before .if1 .left), sym (c .before .before .before .fit-shape .ensures) ∙ c .before .numbers .given .1)
 
-enum-told : tie.Need-enum-told
-enum-told c = search needs
-
-slice-aggregate-fit-shape-2 : tie.Need-slice-aggregate-fit-shape-2
-slice-aggregate-fit-shape-2 c = search needs
-
-fit-shape-requires-2 : tie.Need-fit-shape-requires-2
-fit-shape-requires-2 c κs = search needs
-
-enum-known-numbers-2 : tie.Need-enum-known-numbers-2
-enum-known-numbers-2 c = search needs
-
 returns-3 : tie.Need-returns-3
 unfolding request
 returns-3 c =
     simp
     (le-ltb _ _ (c .before .before .before .before .before .before .before .before .before .if1 .left), not-add (c .before .before .before .before .before), sym (c .before .before .before .fit-shape2 .ensures) ∙ c .before .numbers2 .given .1)
-
-enum-told-2 : tie.Need-enum-told-2
-enum-told-2 c = search needs
-
-slice-aggregate-fit-shape-3 : tie.Need-slice-aggregate-fit-shape-3
-slice-aggregate-fit-shape-3 c = search needs
-
-fit-shape-requires-3 : tie.Need-fit-shape-requires-3
-fit-shape-requires-3 c κs = search needs
-
-enum-known-numbers-3 : tie.Need-enum-known-numbers-3
-enum-known-numbers-3 c = search needs
 
 returns-4 : tie.Need-returns-4
 unfolding request
@@ -74,26 +41,11 @@ returns-4 c =
     simp
     (le-ltb _ _ (c .before .before .before .before .before .before .before .before .before .before .before .before .before .if1 .left), not-add (c .before .before .before .before .before .before .before .before .before), not-drop (c .before .before .before .before .before), sym (c .before .before .before .fit-shape3 .ensures) ∙ c .before .numbers3 .given .1)
 
-enum-told-3 : tie.Need-enum-told-3
-enum-told-3 c = search needs
-
-slice-aggregate-fit-shape-4 : tie.Need-slice-aggregate-fit-shape-4
-slice-aggregate-fit-shape-4 c = search needs
-
-fit-shape-requires-4 : tie.Need-fit-shape-requires-4
-fit-shape-requires-4 c κs = search needs
-
-enum-known-numbers-4 : tie.Need-enum-known-numbers-4
-enum-known-numbers-4 c = search needs
-
 returns-5 : tie.Need-returns-5
 unfolding request
 returns-5 c =
     simp
     (le-ltb _ _ (c .before .before .before .before .before .before .before .before .before .before .before .before .before .before .before .before .before .if1 .left), not-add (c .before .before .before .before .before .before .before .before .before .before .before .before .before), not-drop (c .before .before .before .before .before .before .before .before .before), not-move (c .before .before .before .before .before), sym (c .before .before .before .fit-shape4 .ensures) ∙ c .before .numbers4 .given .1)
-
-enum-told-4 : tie.Need-enum-told-4
-enum-told-4 c = search needs
 
 returns-6 : tie.Need-returns-6
 unfolding request
@@ -105,24 +57,24 @@ read-request-spec =
     tie.close
     (tie.spec
     returns
-    slice-aggregate-fit-shape
-    fit-shape-requires
-    enum-known-numbers
+    (λ c. search needs)
+    (λ c κs. search needs)
+    (λ c. search needs)
     returns-2
-    enum-told
-    slice-aggregate-fit-shape-2
-    fit-shape-requires-2
-    enum-known-numbers-2
+    (λ c. search needs)
+    (λ c. search needs)
+    (λ c κs. search needs)
+    (λ c. search needs)
     returns-3
-    enum-told-2
-    slice-aggregate-fit-shape-3
-    fit-shape-requires-3
-    enum-known-numbers-3
+    (λ c. search needs)
+    (λ c. search needs)
+    (λ c κs. search needs)
+    (λ c. search needs)
     returns-4
-    enum-told-3
-    slice-aggregate-fit-shape-4
-    fit-shape-requires-4
-    enum-known-numbers-4
+    (λ c. search needs)
+    (λ c. search needs)
+    (λ c κs. search needs)
+    (λ c. search needs)
     returns-5
-    enum-told-4
+    (λ c. search needs)
     returns-6)
