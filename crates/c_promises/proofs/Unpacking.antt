@@ -21,7 +21,7 @@ use Rattle.c_words.proofs.Bytes.{four-each}
 use Rattle.c_words.proofs.Words.{count-whole, count-none}
 use Rattle.c_numbers.specs.Fitting.{Fits}
 use Rattle.gateway.specs.Crossing.{Crossed}
-use Rattle.gateway.proofs.Fitting.{lookup-fits}
+use Rattle.c_numbers.proofs.Fitting.{lookup-fits}
 use Rattle.c_promises.specs.Numbers.{gateway-refusal, gateway-found, gateway-hop, gateway-length, gateway-probes, gateway-vector}
 
 -- ---- Lookups

@@ -1,8 +1,8 @@
 -- The lent lists are memory of their own lengths.
 use mathlib.Core.Path.{refl, sym}
 use borrow.Author.Needs.{needs}
-use Rattle.gateway.proofs.refuse_bytes.Statement.{statement}
-use Rattle.gateway.proofs.refuse_bytes.Tie as tie
+use Rattle.c_calls.proofs.refuse_bytes.Statement.{statement}
+use Rattle.c_calls.proofs.refuse_bytes.Tie as tie
 
 word-count-requires : tie.Need-word-count-requires
 word-count-requires c κs = search needs
