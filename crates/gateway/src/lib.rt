@@ -29,8 +29,7 @@ pub extern "C" fn gateway_clear(
 ) -> u64
     ensures { λ r. ⌜ Crossed (clear (settings-of k (now (d .entry)) e s a b c) (lent (now (counters .entry)) (now (slots .entry)))) r (now (counters .exit)) (now (slots .exit)) ⌝ }
 {
-    let settings = settings_of(k, d, e, s, a, b, c);
-    refusal_part(table::clear(settings, counters, slots))
+    refusal_part(table::clear(settings_of(k, d, e, s, a, b, c), counters, slots))
 }
 
 // Stores a route. One that is stored keeps its slot and gets the new hop.

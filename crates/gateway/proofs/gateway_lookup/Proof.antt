@@ -1,6 +1,5 @@
 -- The number is that of the answer.
 use mathlib.Core.Path.{_∙_, ap}
-use borrow.Author.Needs.{needs}
 use Rattle.rules.specs.declared.Settings.{Settings}
 use Rattle.rules.specs.Table.{answer-number, c-lookup}
 use Rattle.c_calls.proofs.Whole.{lookup-alike}

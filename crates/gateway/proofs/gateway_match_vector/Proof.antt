@@ -1,6 +1,5 @@
 -- The number is that of the vector.
 use mathlib.Core.Path.{_∙_, ap}
-use borrow.Author.Needs.{needs}
 use Rattle.rules.specs.declared.Settings.{Settings}
 use Rattle.rules.specs.Table.{vector-number, c-match-vector}
 use Rattle.c_calls.proofs.Whole.{vector-alike}
