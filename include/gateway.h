@@ -449,7 +449,7 @@ static inline uint32_t gateway_refused(uint64_t answer)
         (table)->settings.s, (table)->settings.a, (table)->settings.b, (table)->settings.c
 #define GATEWAY_WORDS_OF(table)                                                                    \
     (table)->counters, (table)->counters_bytes, (table)->slots, (table)->slots_words
-/* Words of which no size can say the bytes are handed on as one byte, which is refused as GATEWAY_BAD_SIZE too. */
+/* Where a size_t cannot count the bytes of so many words, one byte is lent: this is GATEWAY_BAD_SIZE too. */
 #define GATEWAY_BYTES_OF(table)                                                                    \
     (table)->counters, (table)->counters_bytes, (const uint8_t *)(table)->slots,                   \
         (table)->slots_words <= (size_t)-1 / 4 ? 4 * (table)->slots_words : 1

@@ -78,7 +78,7 @@ static void run_refusals(void)
     CHECK(is_refused(gateway_table_lookup(&other, 0), GATEWAY_BAD_SETTINGS));
     CHECK(gateway_table_match_vector(&other, 0).refusal == GATEWAY_BAD_SETTINGS);
 
-    /* Four times so many words are the bytes of the right size, if what a size cannot say is dropped. */
+    /* Four times so many words wraps round to the bytes of the right size. */
     for (size_t times = 1; times <= 3; times++) {
         other = table;
         other.slots_words += times * ((size_t)-1 / 4 + 1);
