@@ -3,8 +3,8 @@ use Prim.Native.Nat.{_-_}
 use mathlib.Core.Path.{_≡_}
 use lib.ListN.{length}
 use borrow.Author.Needs.{needs}
-use Rattle.cases_lists.proofs.copy_words.Statement.{statement}
-use Rattle.cases_lists.proofs.copy_words.Tie as tie
+use Rattle.cases.proofs.copy_words.Statement.{statement}
+use Rattle.cases.proofs.copy_words.Tie as tie
 
 abbrev Inv-loop : tie.InvT-loop
 Inv-loop words bytes₀ i₀ bytes i = length bytes ≡ length bytes₀

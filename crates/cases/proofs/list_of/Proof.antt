@@ -1,8 +1,8 @@
 -- What is asked of the numbers is linear.
 use Prim.Native.Nat.{_-_, _≤_}
 use borrow.Author.Needs.{needs}
-use Rattle.cases_calls.proofs.list_of.Statement.{statement}
-use Rattle.cases_calls.proofs.list_of.Tie as tie
+use Rattle.cases.proofs.list_of.Statement.{statement}
+use Rattle.cases.proofs.list_of.Tie as tie
 
 abbrev Inv-loop : tie.InvT-loop
 Inv-loop t list₀ i₀ list i = i ≤ 32

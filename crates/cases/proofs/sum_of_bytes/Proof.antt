@@ -1,24 +1,23 @@
--- What is asked of the numbers is linear, and a word is as small as its type has it.
+-- What is asked of the numbers is linear, and a byte is as small as its type has it.
 use Prim.Native.Nat.{_-_, _≤_}
 use native.Mathlib.Omega.{arith}
 use lib.ListN.{length}
 use borrow.Author.Needs.{needs}
-use Rattle.cases_messages.proofs.sum_of_words.Statement.{statement}
-use Rattle.cases_messages.proofs.sum_of_words.Tie as tie
+use Rattle.cases.proofs.sum_of_bytes.Statement.{statement}
+use Rattle.cases.proofs.sum_of_bytes.Tie as tie
 
 abbrev Inv-loop : tie.InvT-loop
-Inv-loop words sum₀ i₀ sum i = i ≤ length words
+Inv-loop bytes sum₀ i₀ sum i = i ≤ length bytes
 
 abbrev μ-loop : tie.MeasureT-loop
-μ-loop words sum₀ i₀ sum i = length words - i
+μ-loop bytes sum₀ i₀ sum i = length bytes - i
 
-pub sum-of-words-spec : {M : Type 1} → statement M
-sum-of-words-spec =
+pub sum-of-bytes-spec : {M : Type 1} → statement M
+sum-of-bytes-spec =
     tie.close
     (tie.spec
     Inv-loop
     μ-loop
-    (λ c. search needs)
     (λ c. search needs)
     (λ c. search needs)
     (λ c. search needs)
