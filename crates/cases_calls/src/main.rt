@@ -2,13 +2,11 @@
 // calls. Each line has a case and what its call gives back; what can be asked from C too is asked both
 // ways, and after a call that writes two sums show what the lent memory holds. The file stdout comes
 // from the rules alone: tests/cases works it out, and has no code of the crates.
-ghost use Prim.Native.Nat.{_≤_};
-use libc::STDOUT_FILENO;
+use cases::Lent;
 use rules::Settings;
 
-// A case is four numbers in one, in hex: what is done, a prefix, a length and a hop, as the call has
-// them. For FIND and VECTOR the address stands in the prefix's place; what stands there for the rest
-// is said here.
+// What a case does, beside what crates/cases has for all. For FIND and VECTOR the address stands in the
+// prefix's place.
 const CLEAR: u32 = 0;
 
 const ADD: u32 = 1;
@@ -26,27 +24,6 @@ const COUNTER: u32 = 6;
 
 // A place among the words.
 const WORD: u32 = 7;
-
-// Damage: a byte or a word to write, and its place where the hop stands.
-const PUT_COUNTER: u32 = 8;
-
-const PUT_WORD: u32 = 9;
-
-// K, D, E and S, a byte each. D is that of the length, or of every length where that is 0.
-const SHAPE: u32 = 10;
-
-// A, B or C.
-const MULTIPLIER_A: u32 = 11;
-
-const MULTIPLIER_B: u32 = 12;
-
-const MULTIPLIER_C: u32 = 13;
-
-// How many counters are lent and, where the hop stands, how many values of D to C.
-const LEND_COUNTERS: u32 = 14;
-
-// How many words are lent and, where the hop stands, how many bytes for them to C.
-const LEND_SLOTS: u32 = 15;
 
 const CASES: [u64; 433] = [
     // Settings T, and memory that was never cleared: every slot holds 0.0.0.7 with the mark 7, and
@@ -528,197 +505,22 @@ const CASES: [u64; 433] = [
     0x1_00000001_20_00004,
 ];
 
-// How much is lent: counters, values of D to C, words, and bytes for the words to C.
-struct Sizes {
-    counters: usize,
-    values: usize,
-    words: usize,
-    bytes: usize,
-}
-
-// What a case does.
-fn what_of(case: u64) -> u32 {
-    (case / 0x1000_0000_0000_0000) as u32
-}
-
-// A case's prefix, or what stands there.
-fn prefix_of(case: u64) -> u32 {
-    (case / 0x1000_0000 % 0x1_0000_0000) as u32
-}
-
-fn length_of(case: u64) -> u32 {
-    (case / 0x10_0000 % 0x100) as u32
-}
-
-// A case's hop, or what stands there.
-fn hop_of(case: u64) -> u32 {
-    (case % 0x10_0000) as u32
-}
-
-fn begin(case: u64) {
-    io::print_hex(STDOUT_FILENO, case, 16);
-    io::write_all(STDOUT_FILENO, b":");
-}
-
-fn end() {
-    io::write_all(STDOUT_FILENO, b"\n");
-}
-
-fn number(n: u32) {
-    io::write_all(STDOUT_FILENO, b" ");
-    io::print_decimal(STDOUT_FILENO, n as u64);
-}
-
-// A number in hex: a sum, or what C gets, whose parts are then whole digits.
-fn digits(n: u64) {
-    io::write_all(STDOUT_FILENO, b" ");
-    io::print_hex(STDOUT_FILENO, n, 1);
-}
-
 fn flag(b: bool) -> u32 {
     if b { 1 } else { 0 }
-}
-
-fn least(a: usize, b: usize) -> usize
-    ensures { λ r. ⌜ r ≤ b ⌝ }
-{
-    if a < b { a } else { b }
 }
 
 fn wide(byte: u8) -> u32 {
     byte as u32
 }
 
-// The settings with another D at a length, or at all.
-fn set_d(t: Settings, length: u32, d: u8) -> Settings {
-    let mut next = t;
-    if length == 0 {
-        let all = [d; 32];
-        next.d = all;
-    } else if length <= 32 {
-        next.d[(length - 1) as usize] = d;
-    }
-    next
-}
-
-// The values of D as C lends them: one more than there are lengths, for a list that is too long.
-fn list_of(t: Settings) -> [u8; 33] {
-    let mut list = [4u8; 33];
-    for i in 0..32 {
-        list[i] = t.d[i];
-    }
-    list
-}
-
-// The settings after a case.
-fn set(t: Settings, case: u64) -> Settings {
-    let what = what_of(case);
-    let n = prefix_of(case);
-    let mut next = t;
-    if what == SHAPE {
-        next = set_d(t, length_of(case), (n / 0x1_0000 % 0x100) as u8);
-        next.k = n / 0x100_0000;
-        next.e = n / 0x100 % 0x100;
-        next.s = n % 0x100;
-    }
-    if what == MULTIPLIER_A {
-        next.a = n;
-    }
-    if what == MULTIPLIER_B {
-        next.b = n;
-    }
-    if what == MULTIPLIER_C {
-        next.c = n;
-    }
-    next
-}
-
-// The sizes after a case.
-fn lend(sizes: Sizes, case: u64) -> Sizes {
-    let what = what_of(case);
-    let mut next = sizes;
-    if what == LEND_COUNTERS {
-        next.counters = prefix_of(case) as usize;
-        next.values = hop_of(case) as usize;
-    }
-    if what == LEND_SLOTS {
-        next.words = prefix_of(case) as usize;
-        next.bytes = hop_of(case) as usize;
-    }
-    next
-}
-
-// Puts a byte at a place, if it is there.
-fn put_byte(bytes: &mut [u8], place: usize, byte: u8) {
-    if place < bytes.len() {
-        bytes[place] = byte;
-    }
-}
-
-// Puts a word at a place, if it is there.
-fn put_word(words: &mut [u32], place: usize, word: u32) {
-    if place < words.len() {
-        words[place] = word;
-    }
-}
-
-// Puts a word into the bytes that C lends for it, the low byte first.
-fn put_bytes(bytes: &mut [u8], place: usize, word: u32) {
-    if bytes.len() / 4 <= place {
-        return;
-    }
-    let at = 4 * place;
-    bytes[at] = (word % 0x100) as u8;
-    bytes[at + 1] = (word / 0x100 % 0x100) as u8;
-    bytes[at + 2] = (word / 0x1_0000 % 0x100) as u8;
-    bytes[at + 3] = (word / 0x100_0000) as u8;
-}
-
-// The words as the bytes that C lends for them.
-fn copy_words(words: &[u32], bytes: &mut [u8]) {
-    let mut i = 0;
-    while i < words.len() {
-        put_bytes(bytes, i, words[i]);
-        i += 1;
-    }
-}
-
-// A sum of bytes in which their order counts.
-fn sum_of_bytes(bytes: &[u8]) {
-    let mut sum: u64 = 0;
-    let mut i = 0;
-    while i < bytes.len() {
-        sum = sum % 0x100_0000_0000 * 31 + bytes[i] as u64;
-        i += 1;
-    }
-    digits(sum % 0x100_0000_0000);
-}
-
-fn sum_of_words(words: &[u32]) {
-    let mut sum: u64 = 0;
-    let mut i = 0;
-    while i < words.len() {
-        sum = sum % 0x100_0000_0000 * 31 + words[i] as u64;
-        i += 1;
-    }
-    digits(sum % 0x100_0000_0000);
-}
-
 fn find(t: Settings, d: &[u8], counters: &[u8], slots: &[u32], bytes: &[u8], address: u32) {
     let r = table::lookup(t, counters, slots, address);
-    number(r.refusal);
-    number(flag(r.found));
-    number(r.hop);
-    number(r.length);
-    number(r.probes);
-    digits(gateway::gateway_lookup(t.k, d, t.e, t.s, t.a, t.b, t.c, counters, bytes, address));
-}
-
-fn vector(t: Settings, d: &[u8], counters: &[u8], slots: &[u32], bytes: &[u8], address: u32) {
-    let r = table::match_vector(t, counters, slots, address);
-    number(r.refusal);
-    number(r.vector);
-    digits(gateway::gateway_match_vector(
+    cases::number(r.refusal);
+    cases::number(flag(r.found));
+    cases::number(r.hop);
+    cases::number(r.length);
+    cases::number(r.probes);
+    cases::digits(gateway::gateway_lookup(
         t.k,
         d,
         t.e,
@@ -732,67 +534,81 @@ fn vector(t: Settings, d: &[u8], counters: &[u8], slots: &[u32], bytes: &[u8], a
     ));
 }
 
-// Asks the table.
-fn ask(t: Settings, d: &[u8], counters: &[u8], slots: &[u32], bytes: &[u8], case: u64) {
-    if what_of(case) == FIND {
-        find(t, d, counters, slots, bytes, prefix_of(case));
+fn vector(t: Settings, d: &[u8], counters: &[u8], slots: &[u32], bytes: &[u8], address: u32) {
+    let r = table::match_vector(t, counters, slots, address);
+    cases::number(r.refusal);
+    cases::number(r.vector);
+    cases::digits(gateway::gateway_match_vector(
+        t.k,
+        d,
+        t.e,
+        t.s,
+        t.a,
+        t.b,
+        t.c,
+        counters,
+        bytes,
+        address,
+    ));
+}
+
+// Asks the table, by its call and as C does.
+fn ask(t: Settings, d: &[u8], counters: &[u8], slots: &[u32], bytes: &mut [u8], case: u64) {
+    let address = cases::prefix_of(case);
+    cases::copy_words(slots, bytes);
+    if cases::what_of(case) == FIND {
+        find(t, d, counters, slots, bytes, address);
     } else {
-        vector(t, d, counters, slots, bytes, prefix_of(case));
+        vector(t, d, counters, slots, bytes, address);
     }
 }
 
 // Reads a place of the lent memory.
 fn read(counters: &[u8], slots: &[u32], case: u64) {
-    let what = what_of(case);
-    let place = prefix_of(case) as usize;
+    let what = cases::what_of(case);
+    let place = cases::prefix_of(case) as usize;
     if what == COUNTER && place < counters.len() {
-        number(wide(counters[place]));
+        cases::number(wide(counters[place]));
     }
     if what == WORD && place < slots.len() {
-        number(slots[place]);
+        cases::number(slots[place]);
     }
 }
 
-// Makes a call that writes, and gives back what C gets from it.
-fn act(t: Settings, d: &[u8], counters: &mut [u8], slots: &mut [u32], case: u64) -> u64 {
-    let what = what_of(case);
-    let p = prefix_of(case);
-    let length = length_of(case);
-    let hop = hop_of(case);
-    if what == CLEAR {
-        return gateway::gateway_clear(t.k, d, t.e, t.s, t.a, t.b, t.c, counters, slots);
-    }
-    if what == ADD {
-        return gateway::gateway_add(
-            t.k,
-            d,
-            t.e,
-            t.s,
-            t.a,
-            t.b,
-            t.c,
-            counters,
-            slots,
-            p,
-            length,
-            hop,
-        );
-    }
-    if what == WITHDRAW {
-        return gateway::gateway_withdraw(
-            t.k,
-            d,
-            t.e,
-            t.s,
-            t.a,
-            t.b,
-            t.c,
-            counters,
-            slots,
-            p,
-            length,
-        );
-    }
+fn clear(t: Settings, d: &[u8], counters: &mut [u8], slots: &mut [u32]) -> u64 {
+    gateway::gateway_clear(t.k, d, t.e, t.s, t.a, t.b, t.c, counters, slots)
+}
+
+fn add(t: Settings, d: &[u8], counters: &mut [u8], slots: &mut [u32], case: u64) -> u64 {
+    let p = cases::prefix_of(case);
+    let length = cases::length_of(case);
+    let hop = cases::hop_of(case);
+    gateway::gateway_add(
+        t.k,
+        d,
+        t.e,
+        t.s,
+        t.a,
+        t.b,
+        t.c,
+        counters,
+        slots,
+        p,
+        length,
+        hop,
+    )
+}
+
+fn withdraw(t: Settings, d: &[u8], counters: &mut [u8], slots: &mut [u32], case: u64) -> u64 {
+    let p = cases::prefix_of(case);
+    let length = cases::length_of(case);
+    gateway::gateway_withdraw(t.k, d, t.e, t.s, t.a, t.b, t.c, counters, slots, p, length)
+}
+
+fn change(t: Settings, d: &[u8], counters: &mut [u8], slots: &mut [u32], case: u64) -> u64 {
+    let p = cases::prefix_of(case);
+    let length = cases::length_of(case);
+    let hop = cases::hop_of(case);
     gateway::gateway_change(
         t.k,
         d,
@@ -809,26 +625,26 @@ fn act(t: Settings, d: &[u8], counters: &mut [u8], slots: &mut [u32], case: u64)
     )
 }
 
-// Writes a byte or a word past every call.
-fn damage(counters: &mut [u8], slots: &mut [u32], case: u64) {
-    let what = what_of(case);
-    let n = prefix_of(case);
-    let place = hop_of(case) as usize;
-    if what == PUT_COUNTER {
-        put_byte(counters, place, (n % 0x100) as u8);
-        return;
+// Makes a call that writes, and gives back what C gets from it.
+fn act(t: Settings, d: &[u8], counters: &mut [u8], slots: &mut [u32], case: u64) -> u64 {
+    match cases::what_of(case) {
+        CLEAR => clear(t, d, counters, slots),
+        ADD => add(t, d, counters, slots, case),
+        WITHDRAW => withdraw(t, d, counters, slots, case),
+        _ => change(t, d, counters, slots, case),
     }
-    if what != PUT_WORD {
-        return;
-    }
-    put_word(slots, place, n);
 }
 
 // A call that writes, and what the lent memory then holds.
 fn update(t: Settings, d: &[u8], counters: &mut [u8], slots: &mut [u32], case: u64) {
-    digits(act(t, d, counters, slots, case));
-    sum_of_bytes(counters);
-    sum_of_words(slots);
+    cases::digits(act(t, d, counters, slots, case));
+    cases::sums(counters, slots);
+}
+
+// Reads or damages a place of the lent memory.
+fn reach(counters: &mut [u8], slots: &mut [u32], case: u64) {
+    read(counters, slots, case);
+    cases::damage(counters, slots, case);
 }
 
 // A case over the memory that is lent for it.
@@ -840,57 +656,40 @@ fn call(
     bytes: &mut [u8],
     case: u64,
 ) {
-    let what = what_of(case);
+    let what = cases::what_of(case);
     if what < FIND {
         update(t, d, counters, slots, case);
-        return;
-    }
-    if what < COUNTER {
-        copy_words(slots, bytes);
+    } else if what < COUNTER {
         ask(t, d, counters, slots, bytes, case);
-        return;
+    } else {
+        reach(counters, slots, case);
     }
-    read(counters, slots, case);
-    damage(counters, slots, case);
 }
 
-// A case over as much of the memory and the list as is lent.
-fn call_lent(
-    t: Settings,
-    sizes: Sizes,
-    list: &[u8],
-    counters: &mut [u8],
-    slots: &mut [u32],
-    bytes: &mut [u8],
-    case: u64,
-) {
-    let counters_lent = least(sizes.counters, counters.len());
-    let words_lent = least(sizes.words, slots.len());
-    let bytes_lent = least(sizes.bytes, bytes.len());
-    let values_lent = least(sizes.values, list.len());
-    call(
-        t,
-        &list[..values_lent],
-        &mut counters[..counters_lent],
-        &mut slots[..words_lent],
-        &mut bytes[..bytes_lent],
-        case,
-    );
-}
-
-// A case and what it writes.
+// A case over as much of the memory and the list as is lent, and what it writes.
 fn line(
     t: Settings,
-    sizes: Sizes,
+    lent: Lent,
     counters: &mut [u8],
     slots: &mut [u32],
     bytes: &mut [u8],
     case: u64,
 ) {
-    begin(case);
-    let list = list_of(t);
-    call_lent(t, sizes, &list, counters, slots, bytes, case);
-    end();
+    let list = cases::list_of(t);
+    let values = cases::bytes_lent(lent.values, &list);
+    let many = cases::bytes_lent(lent.counters, counters);
+    let words = cases::words_lent(lent.words, slots);
+    let count = cases::bytes_lent(lent.bytes, bytes);
+    cases::begin(case);
+    call(
+        t,
+        &list[..values],
+        &mut counters[..many],
+        &mut slots[..words],
+        &mut bytes[..count],
+        case,
+    );
+    cases::end();
 }
 
 // The cases of a list, one after the other over the same memory.
@@ -904,18 +703,19 @@ fn run(cases: &[u64], counters: &mut [u8], slots: &mut [u32], bytes: &mut [u8]) 
         b: 0,
         c: 0,
     };
-    let mut sizes = Sizes {
+    let mut lent = Lent {
         counters: 0,
         values: 0,
         words: 0,
         bytes: 0,
+        from_c: false,
     };
     let mut i = 0;
     while i < cases.len() {
         let case = cases[i];
-        t = set(t, case);
-        sizes = lend(sizes, case);
-        line(t, sizes, counters, slots, bytes, case);
+        t = cases::set(t, case);
+        lent = cases::lend(lent, case);
+        line(t, lent, counters, slots, bytes, case);
         i += 1;
     }
 }

@@ -1,19 +1,18 @@
 // Lists of addresses, asked of the table and from C. A line has a case and, if that asks, what either
 // call gives back and leaves in the results: the words that were lent and one more, byte by byte. The
 // file stdout comes from the rules alone: tests/cases works it out.
-ghost use Rattle.io.specs.Counts.{Counts};
 use gateway::gateway_lookup_list;
 use libc::STDOUT_FILENO;
 use rules::Settings;
 
 // A case is a number in hex whose first digit says what follows: for an add a prefix, a length and a
 // hop, for damage a word and its place among the slots.
-const ADD: u64 = 1;
+const ADD: u32 = 1;
 
-const DAMAGE: u64 = 2;
+const DAMAGE: u32 = 2;
 
 // A D and its length, and how many values of D are lent to C, and counters to an add.
-const FILTER: u64 = 4;
+const FILTER: u32 = 4;
 
 // Any other case asks: K, where the rest is settings T but for what was set, and how many bytes C lends of
 // addresses, results, counters and slots. The table is lent the whole words of them.
@@ -94,76 +93,21 @@ struct Lent {
 
 // The settings after a case.
 fn set(t: Settings, case: u64) -> Settings {
-    let length = (case / 0x1000_0000_0000 % 0x100) as usize;
-    let mut next = t;
-    if case / 0x1000_0000_0000_0000 != FILTER {
-        return next;
+    if cases::what_of(case) != FILTER {
+        return t;
     }
-    if 1 <= length {
-        if length <= 32 {
-            next.d[length - 1] = (case / 0x10_0000_0000_0000 % 0x100) as u8;
-        }
-    }
-    next
+    let length = (case / 0x1000_0000_0000 % 0x100) as u32;
+    cases::set_d(t, length, (case / 0x10_0000_0000_0000 % 0x100) as u8)
 }
 
 // What is lent after a case.
 fn lend(lent: Lent, case: u64) -> Lent {
-    if case / 0x1000_0000_0000_0000 != FILTER {
+    if cases::what_of(case) != FILTER {
         return lent;
     }
     Lent {
         values: (case / 0x10_0000_0000 % 0x100) as usize,
         counters: (case % 0x10_0000_0000) as usize,
-    }
-}
-
-// The values of D as C lends them: one more than there are lengths, for a list that is too long.
-fn list_of(t: Settings) -> [u8; 33] {
-    let mut list = [4u8; 33];
-    for i in 0..32 {
-        list[i] = t.d[i];
-    }
-    list
-}
-
-// As many bytes as are lent, if there are so many.
-fn bytes_lent(n: usize, bytes: &[u8]) -> usize
-    ensures { λ r. ⌜ Counts r (now (bytes .entry)) ⌝ }
-{
-    if n < bytes.len() { n } else { bytes.len() }
-}
-
-fn words_lent(n: usize, words: &[u32]) -> usize
-    ensures { λ r. ⌜ Counts r (now (words .entry)) ⌝ }
-{
-    if n < words.len() { n } else { words.len() }
-}
-
-fn number(n: u64) {
-    io::write_all(STDOUT_FILENO, b" ");
-    io::print_hex(STDOUT_FILENO, n, 1);
-}
-
-// A byte of the words, the low one of each first, and 0 past the last.
-fn byte_at(words: &[u32], i: usize) -> u8 {
-    if words.len() <= i / 4 {
-        return 0;
-    }
-    let word = words[i / 4];
-    match i % 4 {
-        0 => (word % 0x100) as u8,
-        1 => (word / 0x100 % 0x100) as u8,
-        2 => (word / 0x1_0000 % 0x100) as u8,
-        _ => (word / 0x100_0000 % 0x100) as u8,
-    }
-}
-
-fn copy_words(words: &[u32], bytes: &mut [u8]) {
-    let mut i = 0;
-    while i < bytes.len() {
-        bytes[i] = byte_at(words, i);
-        i += 1;
     }
 }
 
@@ -187,23 +131,56 @@ fn show(bytes: &[u8; 96], lent: usize) {
 
 fn show_words(words: &[u32; 24], lent: usize) {
     let mut bytes = [0u8; 96];
-    copy_words(words, &mut bytes);
+    cases::copy_words(words, &mut bytes);
     show(&bytes, lent);
 }
 
 fn ask_table(t: Settings, counters: &[u8], slots: &[u32], list: &[u32], lent: usize) {
     let mut results = [0xaaaaaaaau32; 24];
-    let end = words_lent(lent / 4, &results);
-    number(table::lookup_list(t, counters, slots, list, &mut results[..end]) as u64);
+    let end = cases::words_lent(lent / 4, &results);
+    cases::digits(table::lookup_list(t, counters, slots, list, &mut results[..end]) as u64);
     show_words(&results, lent);
 }
 
 fn ask_from_c(t: Settings, d: &[u8], counters: &[u8], slots: &[u8], list: &[u8], lent: usize) {
     let mut results = [0xaau8; 96];
-    let end = bytes_lent(lent, &results);
+    let end = cases::bytes_lent(lent, &results);
     let r = &mut results[..end];
-    number(gateway_lookup_list(t.k, d, t.e, t.s, t.a, t.b, t.c, counters, slots, list, r));
+    cases::digits(gateway_lookup_list(t.k, d, t.e, t.s, t.a, t.b, t.c, counters, slots, list, r));
     show(&results, lent);
+}
+
+// Asks the table, which is lent the whole words of so many bytes of slots and addresses.
+fn ask_words(
+    t: Settings,
+    counters: &[u8],
+    slots: &[u32],
+    places: usize,
+    addresses: usize,
+    lent: usize,
+) {
+    let end = cases::words_lent(places / 4, slots);
+    let count = cases::words_lent(addresses / 4, &ADDRESSES);
+    ask_table(t, counters, &slots[..end], &ADDRESSES[..count], lent);
+}
+
+// Asks as C does, with so many bytes of slots and addresses.
+fn ask_bytes(
+    t: Settings,
+    d: &[u8],
+    counters: &[u8],
+    slots: &[u32],
+    places: usize,
+    addresses: usize,
+    lent: usize,
+) {
+    let mut bytes = [0u8; 1032];
+    cases::copy_words(slots, &mut bytes);
+    let mut list = [0u8; 20];
+    cases::copy_words(&ADDRESSES, &mut list);
+    let end = cases::bytes_lent(places, &bytes);
+    let count = cases::bytes_lent(addresses, &list);
+    ask_from_c(t, d, counters, &bytes[..end], &list[..count], lent);
 }
 
 fn ask(settings: Settings, values: usize, counters: &[u8], slots: &[u32], case: u64) {
@@ -211,39 +188,45 @@ fn ask(settings: Settings, values: usize, counters: &[u8], slots: &[u32], case: 
     t.k = (case / 0x10_0000_0000_0000 % 0x100) as u32;
     let addresses = (case / 0x100_0000_0000 % 0x1000) as usize;
     let lent = (case / 0x1000_0000 % 0x1000) as usize;
-    let end = bytes_lent((case / 0x1_0000 % 0x1000) as usize, counters);
-    let counters = &counters[..end];
     let places = (case % 0x1_0000) as usize;
-    let end = words_lent(places / 4, slots);
-    let count = words_lent(addresses / 4, &ADDRESSES);
-    ask_table(t, counters, &slots[..end], &ADDRESSES[..count], lent);
-    let mut bytes = [0u8; 1032];
-    copy_words(slots, &mut bytes);
-    let mut list = [0u8; 20];
-    copy_words(&ADDRESSES, &mut list);
-    let end = bytes_lent(places, &bytes);
-    let count = bytes_lent(addresses, &list);
-    let d = list_of(t);
-    let many = bytes_lent(values, &d);
-    ask_from_c(t, &d[..many], counters, &bytes[..end], &list[..count], lent);
+    let end = cases::bytes_lent((case / 0x1_0000 % 0x1000) as usize, counters);
+    let d = cases::list_of(t);
+    let many = cases::bytes_lent(values, &d);
+    ask_words(t, &counters[..end], slots, places, addresses, lent);
+    ask_bytes(
+        t,
+        &d[..many],
+        &counters[..end],
+        slots,
+        places,
+        addresses,
+        lent,
+    );
+}
+
+fn add(t: Settings, lent: Lent, counters: &mut [u8], slots: &mut [u32], case: u64) {
+    let p = cases::prefix_of(case);
+    let length = cases::length_of(case);
+    let hop = cases::hop_of(case);
+    let end = cases::bytes_lent(lent.counters, counters);
+    cases::digits(table::add(t, &mut counters[..end], slots, p, length, hop) as u64);
 }
 
 fn act(t: Settings, lent: Lent, counters: &mut [u8], slots: &mut [u32], case: u64) {
-    let what = case / 0x1000_0000_0000_0000;
-    let p = (case / 0x1000_0000 % 0x1_0000_0000) as u32;
-    let length = (case / 0x10_0000 % 0x100) as u32;
-    let hop = (case % 0x10_0000) as u32;
-    let place = hop as usize;
+    let what = cases::what_of(case);
     if what == ADD {
-        let end = bytes_lent(lent.counters, counters);
-        number(table::add(t, &mut counters[..end], slots, p, length, hop) as u64);
+        add(t, lent, counters, slots, case);
     } else if what == DAMAGE {
-        if place < slots.len() {
-            slots[place] = p;
-        }
+        cases::put_word(slots, cases::hop_of(case) as usize, cases::prefix_of(case));
     } else if what != FILTER {
         ask(t, lent.values, counters, slots, case);
     }
+}
+
+fn line(t: Settings, lent: Lent, counters: &mut [u8], slots: &mut [u32], case: u64) {
+    cases::begin(case);
+    act(t, lent, counters, slots, case);
+    cases::end();
 }
 
 fn run(cases: &[u64], counters: &mut [u8], slots: &mut [u32]) {
@@ -265,10 +248,7 @@ fn run(cases: &[u64], counters: &mut [u8], slots: &mut [u32]) {
         let case = cases[i];
         t = set(t, case);
         lent = lend(lent, case);
-        io::print_hex(STDOUT_FILENO, case, 16);
-        io::write_all(STDOUT_FILENO, b":");
-        act(t, lent, counters, slots, case);
-        io::write_all(STDOUT_FILENO, b"\n");
+        line(t, lent, counters, slots, case);
         i += 1;
     }
 }

@@ -1,12 +1,11 @@
 // Messages read and withdrawals written, by the crates' own calls and then as C calls them. A line has a case
 // and what its call gives back, and sums of what the lent memory then holds. The file stdout comes from the
 // rules alone: tests/cases works it out.
-ghost use Rattle.io.specs.Counts.{Counts};
+use cases::Lent;
 use libc::STDOUT_FILENO;
 use rules::Settings;
 
-// A case is a number in hex whose first digit says what is done. Most have a prefix, a length and a hop
-// after it; what stands there for the rest is said here.
+// What a case does, beside what crates/cases has for all.
 const CLEAR: u32 = 0;
 
 const ADD: u32 = 1;
@@ -29,27 +28,6 @@ const LISTS: u32 = 6;
 
 // From here on the calls are C's.
 const FROM_C: u32 = 7;
-
-// Damage: a byte or a word to write, and its place where the hop stands.
-const PUT_COUNTER: u32 = 8;
-
-const PUT_WORD: u32 = 9;
-
-// K, D, E and S, a byte each. D is that of the length, or of every length where that is 0.
-const SHAPE: u32 = 10;
-
-// A, B or C.
-const MULTIPLIER_A: u32 = 11;
-
-const MULTIPLIER_B: u32 = 12;
-
-const MULTIPLIER_C: u32 = 13;
-
-// How many counters are lent and, where the hop stands, how many values of D to C.
-const LEND_COUNTERS: u32 = 14;
-
-// How many words are lent.
-const LEND_SLOTS: u32 = 15;
 
 const CASES: [u64; 380] = [
     // K 3, D 4, E 1, S 2 and unlike multipliers, over memory that was never cleared.
@@ -487,134 +465,13 @@ const CASES: [u64; 380] = [
     0x6_00001002_00_00103,
 ];
 
-// How much is lent, counters, values of D and words, and whether it is C that lends it.
-struct Lent {
-    counters: usize,
-    values: usize,
-    words: usize,
-    from_c: bool,
-}
-
-// What a case does.
-fn what_of(case: u64) -> u32 {
-    (case / 0x1000_0000_0000_0000) as u32
-}
-
-// A case's prefix, or what stands there.
-fn prefix_of(case: u64) -> u32 {
-    (case / 0x1000_0000 % 0x1_0000_0000) as u32
-}
-
-fn length_of(case: u64) -> u32 {
-    (case / 0x10_0000 % 0x100) as u32
-}
-
-// A case's hop, or what stands there.
-fn hop_of(case: u64) -> u32 {
-    (case % 0x10_0000) as u32
-}
-
-fn begin(case: u64) {
-    io::print_hex(STDOUT_FILENO, case, 16);
-    io::write_all(STDOUT_FILENO, b":");
-}
-
-fn end() {
-    io::write_all(STDOUT_FILENO, b"\n");
-}
-
-// A number in hex: a sum, a count, or what C gets, whose parts are then whole digits.
-fn digits(n: u64) {
-    io::write_all(STDOUT_FILENO, b" ");
-    io::print_hex(STDOUT_FILENO, n, 1);
-}
-
-// As many bytes as are lent, if there are so many.
-fn bytes_lent(n: usize, bytes: &[u8]) -> usize
-    ensures { λ r. ⌜ Counts r (now (bytes .entry)) ⌝ }
-{
-    if n < bytes.len() { n } else { bytes.len() }
-}
-
-fn words_lent(n: usize, words: &[u32]) -> usize
-    ensures { λ r. ⌜ Counts r (now (words .entry)) ⌝ }
-{
-    if n < words.len() { n } else { words.len() }
-}
-
-// The settings with another D at a length, or at all.
-fn set_d(t: Settings, length: u32, d: u8) -> Settings {
-    let mut next = t;
-    if length == 0 {
-        let all = [d; 32];
-        next.d = all;
-    } else if length <= 32 {
-        next.d[(length - 1) as usize] = d;
-    }
-    next
-}
-
-// The values of D as C lends them: one more than there are lengths, for a list that is too long.
-fn list_of(t: Settings) -> [u8; 33] {
-    let mut list = [4u8; 33];
-    for i in 0..32 {
-        list[i] = t.d[i];
-    }
-    list
-}
-
-// The settings after a case.
-fn set(t: Settings, case: u64) -> Settings {
-    let what = what_of(case);
-    let n = prefix_of(case);
-    let mut next = t;
-    if what == SHAPE {
-        next = set_d(t, length_of(case), (n / 0x1_0000 % 0x100) as u8);
-        next.k = n / 0x100_0000;
-        next.e = n / 0x100 % 0x100;
-        next.s = n % 0x100;
-    }
-    if what == MULTIPLIER_A {
-        next.a = n;
-    }
-    if what == MULTIPLIER_B {
-        next.b = n;
-    }
-    if what == MULTIPLIER_C {
-        next.c = n;
-    }
-    next
-}
-
-// What is lent after a case.
+// What is lent after a case, and whether it is C that calls.
 fn lend(lent: Lent, case: u64) -> Lent {
-    let what = what_of(case);
-    let mut next = lent;
-    if what == LEND_COUNTERS {
-        next.counters = prefix_of(case) as usize;
-        next.values = hop_of(case) as usize;
-    }
-    if what == LEND_SLOTS {
-        next.words = prefix_of(case) as usize;
-    }
-    if what == FROM_C {
+    let mut next = cases::lend(lent, case);
+    if cases::what_of(case) == FROM_C {
         next.from_c = true;
     }
     next
-}
-
-// Puts a byte at a place, if it is there.
-fn put_byte(bytes: &mut [u8], place: usize, byte: u8) {
-    if place < bytes.len() {
-        bytes[place] = byte;
-    }
-}
-
-// Puts a word at a place, if it is there.
-fn put_word(words: &mut [u32], place: usize, word: u32) {
-    if place < words.len() {
-        words[place] = word;
-    }
 }
 
 // The byte at a place, if it is there.
@@ -622,28 +479,41 @@ fn byte_at(bytes: &[u8], place: usize) -> u8 {
     if place < bytes.len() { bytes[place] } else { 0 }
 }
 
-// A sum of bytes in which their order counts.
-fn sum_of_bytes(bytes: &[u8]) {
-    let mut sum: u64 = 0;
-    let mut i = 0;
-    while i < bytes.len() {
-        sum = sum % 0x100_0000_0000 * 31 + bytes[i] as u64;
-        i += 1;
-    }
-    digits(sum % 0x100_0000_0000);
+// Reads a message by the crates' own call.
+fn apply(t: Settings, counters: &mut [u8], slots: &mut [u32], message: &[u8], hops: &[u32]) {
+    let report = message_calls::apply_message(t, counters, slots, message, hops);
+    cases::digits(report.refusal as u64);
+    cases::digits(report.accepted as u64);
+    cases::digits(report.refused as u64);
 }
 
-fn sum_of_words(words: &[u32]) {
-    let mut sum: u64 = 0;
-    let mut i = 0;
-    while i < words.len() {
-        sum = sum % 0x100_0000_0000 * 31 + words[i] as u64;
-        i += 1;
-    }
-    digits(sum % 0x100_0000_0000);
+// Reads a message as C does.
+fn apply_from_c(
+    t: Settings,
+    values: usize,
+    counters: &mut [u8],
+    slots: &mut [u32],
+    message: &[u8],
+    hops: &[u32],
+) {
+    let list = cases::list_of(t);
+    let end = cases::bytes_lent(values, &list);
+    let d = &list[..end];
+    cases::digits(gateway::gateway_update(
+        t.k,
+        d,
+        t.e,
+        t.s,
+        t.a,
+        t.b,
+        t.c,
+        counters,
+        slots,
+        message,
+        hops,
+    ));
 }
 
-// Reads a message, and shows what it gives back.
 fn update(
     t: Settings,
     lent: Lent,
@@ -653,30 +523,13 @@ fn update(
     hops: &[u32],
 ) {
     if lent.from_c {
-        let list = list_of(t);
-        let values = bytes_lent(lent.values, &list);
-        digits(gateway::gateway_update(
-            t.k,
-            &list[..values],
-            t.e,
-            t.s,
-            t.a,
-            t.b,
-            t.c,
-            counters,
-            slots,
-            message,
-            hops,
-        ));
+        apply_from_c(t, lent.values, counters, slots, message, hops);
     } else {
-        let report = message_calls::apply_message(t, counters, slots, message, hops);
-        digits(report.refusal as u64);
-        digits(report.accepted as u64);
-        digits(report.refused as u64);
+        apply(t, counters, slots, message, hops);
     }
 }
 
-// Reads a message, and shows what the memory then holds.
+// Reads a message, and shows what that gives back and what the memory then holds.
 fn read(
     t: Settings,
     lent: Lent,
@@ -686,15 +539,14 @@ fn read(
     hops: &[u32],
 ) {
     update(t, lent, counters, slots, message, hops);
-    sum_of_bytes(counters);
-    sum_of_words(slots);
+    cases::sums(counters, slots);
 }
 
 fn write_room(from_c: bool, p: u32, length: u32, room: &mut [u8]) {
     if from_c {
-        digits(gateway::gateway_write_withdrawal(p, length, room));
+        cases::digits(gateway::gateway_write_withdrawal(p, length, room));
     } else {
-        digits(message_writers::write_withdrawal(p, length, room) as u64);
+        cases::digits(message_writers::write_withdrawal(p, length, room) as u64);
     }
 }
 
@@ -720,7 +572,7 @@ fn read_room(
     room: &[u8],
     size: usize,
 ) {
-    let end = bytes_lent(size, room);
+    let end = cases::bytes_lent(size, room);
     read(t, lent, counters, slots, &room[..end], &[]);
 }
 
@@ -739,24 +591,25 @@ fn show_written(
 // Writes a withdrawal, and reads it.
 fn write(t: Settings, lent: Lent, counters: &mut [u8], slots: &mut [u32], case: u64) {
     let mut room = [0xaau8; 32];
-    let size = hop_of(case) as usize;
-    let end = bytes_lent(size, &room);
-    write_room(
-        lent.from_c,
-        prefix_of(case),
-        length_of(case),
-        &mut room[..end],
-    );
+    let size = cases::hop_of(case) as usize;
+    let end = cases::bytes_lent(size, &room);
+    let p = cases::prefix_of(case);
+    let length = cases::length_of(case);
+    write_room(lent.from_c, p, length, &mut room[..end]);
     show_written(t, lent, counters, slots, &room, size);
 }
 
+// Puts the two bytes of a number at two places of the message.
+fn put_two(message: &mut [u8], high: usize, low: usize, two: u32) {
+    cases::put_byte(message, high, (two / 0x100 % 0x100) as u8);
+    cases::put_byte(message, low, (two % 0x100) as u8);
+}
+
 // Puts four bytes into the message, the highest of the number first.
-fn put_bytes(message: &mut [u8], bytes: u32, place: u32) {
+fn put_four(message: &mut [u8], place: u32, four: u32) {
     let at = place as usize;
-    put_byte(message, at, (bytes / 0x100_0000 % 0x100) as u8);
-    put_byte(message, at + 1, (bytes / 0x1_0000 % 0x100) as u8);
-    put_byte(message, at + 2, (bytes / 0x100 % 0x100) as u8);
-    put_byte(message, at + 3, (bytes % 0x100) as u8);
+    put_two(message, at, at + 1, four / 0x1_0000);
+    put_two(message, at + 2, at + 3, four);
 }
 
 // Reads so much of the message, in which one byte is otherwise for this time.
@@ -771,18 +624,49 @@ fn read_patched(
 ) {
     let place = (case / 0x10_0000_0000_0000 % 0x100) as usize;
     let before = byte_at(message, place);
-    put_byte(message, place, (case / 0x1000_0000_0000 % 0x100) as u8);
-    let end = bytes_lent((case / 0x100_0000 % 0x10_0000) as usize, message);
-    let count = words_lent((case % 0x100_0000) as usize, hops);
+    cases::put_byte(message, place, (case / 0x1000_0000_0000 % 0x100) as u8);
+    let end = cases::bytes_lent((case / 0x100_0000 % 0x10_0000) as usize, message);
+    let count = cases::words_lent((case % 0x100_0000) as usize, hops);
     read(t, lent, counters, slots, &message[..end], &hops[..count]);
-    put_byte(message, place, before);
+    cases::put_byte(message, place, before);
 }
 
 fn show_lists(message: &[u8], hops: &[u32], bytes: u32, words: u32) {
-    let end = bytes_lent(bytes as usize, message);
-    let count = words_lent(words as usize, hops);
-    sum_of_bytes(&message[..end]);
-    sum_of_words(&hops[..count]);
+    let end = cases::bytes_lent(bytes as usize, message);
+    let count = cases::words_lent(words as usize, hops);
+    cases::sums(&message[..end], &hops[..count]);
+}
+
+// A case of the message and the next hops alone.
+fn prepare(message: &mut [u8], hops: &mut [u32], case: u64) {
+    let p = cases::prefix_of(case);
+    let hop = cases::hop_of(case);
+    match cases::what_of(case) {
+        BYTES => put_four(message, hop, p),
+        HOP => cases::put_word(hops, hop as usize, p),
+        LISTS => show_lists(message, hops, p, hop),
+        _ => {}
+    }
+}
+
+fn clear(t: Settings, counters: &mut [u8], slots: &mut [u32]) {
+    cases::digits(table::clear(t, counters, slots) as u64);
+}
+
+fn add(t: Settings, counters: &mut [u8], slots: &mut [u32], case: u64) {
+    let p = cases::prefix_of(case);
+    let length = cases::length_of(case);
+    let hop = cases::hop_of(case);
+    cases::digits(table::add(t, counters, slots, p, length, hop) as u64);
+}
+
+// A case of the table alone.
+fn act(t: Settings, counters: &mut [u8], slots: &mut [u32], case: u64) {
+    match cases::what_of(case) {
+        CLEAR => clear(t, counters, slots),
+        ADD => add(t, counters, slots, case),
+        _ => cases::damage(counters, slots, case),
+    }
 }
 
 // A case over the memory that is lent for it.
@@ -795,56 +679,18 @@ fn call(
     hops: &mut [u32],
     case: u64,
 ) {
-    let what = what_of(case);
-    let p = prefix_of(case);
-    let length = length_of(case);
-    let hop = hop_of(case);
-    let place = hop as usize;
-    if what == CLEAR {
-        digits(table::clear(t, counters, slots) as u64);
-    } else if what == ADD {
-        digits(table::add(t, counters, slots, p, length, hop) as u64);
-    } else if what == BYTES {
-        put_bytes(message, p, hop);
-    } else if what == READ {
+    let what = cases::what_of(case);
+    if what == READ {
         read_patched(t, lent, counters, slots, message, hops, case);
     } else if what == WRITE {
         write(t, lent, counters, slots, case);
-    } else if what == HOP {
-        put_word(hops, place, p);
-    } else if what == LISTS {
-        show_lists(message, hops, p, hop);
-    } else if what == PUT_COUNTER {
-        put_byte(counters, place, (p % 0x100) as u8);
-    } else if what == PUT_WORD {
-        put_word(slots, place, p);
+    } else {
+        act(t, counters, slots, case);
+        prepare(message, hops, case);
     }
 }
 
-// A case over as much of the memory as is lent.
-fn call_lent(
-    t: Settings,
-    lent: Lent,
-    counters: &mut [u8],
-    slots: &mut [u32],
-    message: &mut [u8],
-    hops: &mut [u32],
-    case: u64,
-) {
-    let bytes = bytes_lent(lent.counters, counters);
-    let words = words_lent(lent.words, slots);
-    call(
-        t,
-        lent,
-        &mut counters[..bytes],
-        &mut slots[..words],
-        message,
-        hops,
-        case,
-    );
-}
-
-// A case and what it writes.
+// A case over as much of the memory as is lent, and what it writes.
 fn line(
     t: Settings,
     lent: Lent,
@@ -854,9 +700,19 @@ fn line(
     hops: &mut [u32],
     case: u64,
 ) {
-    begin(case);
-    call_lent(t, lent, counters, slots, message, hops, case);
-    end();
+    let bytes = cases::bytes_lent(lent.counters, counters);
+    let words = cases::words_lent(lent.words, slots);
+    cases::begin(case);
+    call(
+        t,
+        lent,
+        &mut counters[..bytes],
+        &mut slots[..words],
+        message,
+        hops,
+        case,
+    );
+    cases::end();
 }
 
 // The cases of a list, one after the other over the same memory.
@@ -880,12 +736,13 @@ fn run(
         counters: 0,
         values: 0,
         words: 0,
+        bytes: 0,
         from_c: false,
     };
     let mut i = 0;
     while i < cases.len() {
         let case = cases[i];
-        t = set(t, case);
+        t = cases::set(t, case);
         lent = lend(lent, case);
         line(t, lent, counters, slots, message, hops, case);
         i += 1;

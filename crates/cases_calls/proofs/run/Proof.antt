@@ -7,11 +7,11 @@ use Rattle.cases_calls.proofs.run.Statement.{statement}
 use Rattle.cases_calls.proofs.run.Tie as tie
 
 abbrev Inv-loop : tie.InvT-loop
-Inv-loop cases counters₀ slots₀ bytes₀ t₀ sizes₀ i₀ counters slots bytes t sizes i =
+Inv-loop cases counters₀ slots₀ bytes₀ t₀ lent₀ i₀ counters slots bytes t lent i =
     (length counters ≡ length counters₀) × (length slots ≡ length slots₀) × (length bytes ≡ length bytes₀)
 
 abbrev μ-loop : tie.MeasureT-loop
-μ-loop cases counters₀ slots₀ bytes₀ t₀ sizes₀ i₀ counters slots bytes t sizes i = length cases - i
+μ-loop cases counters₀ slots₀ bytes₀ t₀ lent₀ i₀ counters slots bytes t lent i = length cases - i
 
 pub run-spec : {M : Type 1} → statement M
 run-spec =

@@ -7,11 +7,11 @@ use Rattle.cases_lists.proofs.run.Statement.{statement}
 use Rattle.cases_lists.proofs.run.Tie as tie
 
 abbrev Inv-loop : tie.InvT-loop
-Inv-loop cases counters₀ slots₀ t₀ lent₀ i₀ t8 t9 counters slots t lent i =
+Inv-loop cases counters₀ slots₀ t₀ lent₀ i₀ counters slots t lent i =
     (length counters ≡ length counters₀) × (length slots ≡ length slots₀)
 
 abbrev μ-loop : tie.MeasureT-loop
-μ-loop cases counters₀ slots₀ t₀ lent₀ i₀ t8 t9 counters slots t lent i = length cases - i
+μ-loop cases counters₀ slots₀ t₀ lent₀ i₀ counters slots t lent i = length cases - i
 
 pub run-spec : {M : Type 1} → statement M
 run-spec =
@@ -24,11 +24,6 @@ run-spec =
     (λ c. search needs)
     (λ c κs. search needs)
     (λ c κs. search needs)
-    (λ c κs. search needs)
-    (λ c. search needs)
-    (λ c κs. search needs)
-    (λ c κs. search needs)
-    (λ c. search needs)
     (λ c κs. search needs)
     (λ c. search needs)
     (λ c. search needs)

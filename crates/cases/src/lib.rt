@@ -1,0 +1,228 @@
+// What the programs of cases share: the parts of a case, the settings and sizes that cases set, and how
+// lent memory is damaged, copied and shown.
+ghost use Rattle.io.specs.Counts.{Counts};
+use libc::STDOUT_FILENO;
+use rules::Settings;
+
+// A case is a number in hex whose first digit says what is done. Most have a prefix, a length and a hop
+// after it; what stands there for the rest is said here.
+
+// Damage: a byte or a word to write, and its place where the hop stands.
+pub const PUT_COUNTER: u32 = 8;
+
+pub const PUT_WORD: u32 = 9;
+
+// K, D, E and S, a byte each. D is that of the length, or of every length where that is 0.
+pub const SHAPE: u32 = 10;
+
+// A, B or C.
+pub const MULTIPLIER_A: u32 = 11;
+
+pub const MULTIPLIER_B: u32 = 12;
+
+pub const MULTIPLIER_C: u32 = 13;
+
+// How many counters are lent and, where the hop stands, how many values of D to C.
+pub const LEND_COUNTERS: u32 = 14;
+
+// How many words are lent and, where the hop stands, how many bytes for them to C.
+pub const LEND_SLOTS: u32 = 15;
+
+// How much is lent: counters, values of D to C, words, and bytes for the words to C; and whether it is C
+// alone that calls.
+pub struct Lent {
+    pub counters: usize,
+    pub values: usize,
+    pub words: usize,
+    pub bytes: usize,
+    pub from_c: bool,
+}
+
+// What a case does.
+pub fn what_of(case: u64) -> u32 {
+    (case / 0x1000_0000_0000_0000) as u32
+}
+
+// A case's prefix, or what stands there.
+pub fn prefix_of(case: u64) -> u32 {
+    (case / 0x1000_0000 % 0x1_0000_0000) as u32
+}
+
+pub fn length_of(case: u64) -> u32 {
+    (case / 0x10_0000 % 0x100) as u32
+}
+
+// A case's hop, or what stands there.
+pub fn hop_of(case: u64) -> u32 {
+    (case % 0x10_0000) as u32
+}
+
+// Begins the line of a case.
+pub fn begin(case: u64) {
+    io::print_hex(STDOUT_FILENO, case, 16);
+    io::write_all(STDOUT_FILENO, b":");
+}
+
+pub fn end() {
+    io::write_all(STDOUT_FILENO, b"\n");
+}
+
+// Writes a number in decimal.
+pub fn number(n: u32) {
+    io::write_all(STDOUT_FILENO, b" ");
+    io::print_decimal(STDOUT_FILENO, n as u64);
+}
+
+// Writes a number in hex: a sum, a count, or what C gets, whose parts are then whole digits.
+pub fn digits(n: u64) {
+    io::write_all(STDOUT_FILENO, b" ");
+    io::print_hex(STDOUT_FILENO, n, 1);
+}
+
+// As many bytes as are lent, if there are so many.
+pub fn bytes_lent(n: usize, bytes: &[u8]) -> usize
+    ensures { λ r. ⌜ Counts r (now (bytes .entry)) ⌝ }
+{
+    if n < bytes.len() { n } else { bytes.len() }
+}
+
+pub fn words_lent(n: usize, words: &[u32]) -> usize
+    ensures { λ r. ⌜ Counts r (now (words .entry)) ⌝ }
+{
+    if n < words.len() { n } else { words.len() }
+}
+
+// The settings with another D at a length, or at all.
+pub fn set_d(t: Settings, length: u32, d: u8) -> Settings {
+    let mut next = t;
+    if length == 0 {
+        let all = [d; 32];
+        next.d = all;
+    } else if length <= 32 {
+        next.d[(length - 1) as usize] = d;
+    }
+    next
+}
+
+// The values of D as C lends them: one more than there are lengths, for a list that is too long.
+pub fn list_of(t: Settings) -> [u8; 33] {
+    let mut list = [4u8; 33];
+    for i in 0..32 {
+        list[i] = t.d[i];
+    }
+    list
+}
+
+// The settings after a case.
+pub fn set(t: Settings, case: u64) -> Settings {
+    let what = what_of(case);
+    let n = prefix_of(case);
+    let mut next = t;
+    if what == SHAPE {
+        next = set_d(t, length_of(case), (n / 0x1_0000 % 0x100) as u8);
+        next.k = n / 0x100_0000;
+        next.e = n / 0x100 % 0x100;
+        next.s = n % 0x100;
+    }
+    if what == MULTIPLIER_A {
+        next.a = n;
+    }
+    if what == MULTIPLIER_B {
+        next.b = n;
+    }
+    if what == MULTIPLIER_C {
+        next.c = n;
+    }
+    next
+}
+
+// What is lent after a case.
+pub fn lend(lent: Lent, case: u64) -> Lent {
+    let what = what_of(case);
+    let mut next = lent;
+    if what == LEND_COUNTERS {
+        next.counters = prefix_of(case) as usize;
+        next.values = hop_of(case) as usize;
+    }
+    if what == LEND_SLOTS {
+        next.words = prefix_of(case) as usize;
+        next.bytes = hop_of(case) as usize;
+    }
+    next
+}
+
+// Puts a byte at a place, if it is there.
+pub fn put_byte(bytes: &mut [u8], place: usize, byte: u8) {
+    if place < bytes.len() {
+        bytes[place] = byte;
+    }
+}
+
+// Puts a word at a place, if it is there.
+pub fn put_word(words: &mut [u32], place: usize, word: u32) {
+    if place < words.len() {
+        words[place] = word;
+    }
+}
+
+// Writes a byte or a word past every call.
+pub fn damage(counters: &mut [u8], slots: &mut [u32], case: u64) {
+    let what = what_of(case);
+    let n = prefix_of(case);
+    let place = hop_of(case) as usize;
+    if what == PUT_COUNTER {
+        put_byte(counters, place, (n % 0x100) as u8);
+    } else if what == PUT_WORD {
+        put_word(slots, place, n);
+    }
+}
+
+// A byte of the words, the low one of each first, and 0 past the last.
+fn byte_at(words: &[u32], i: usize) -> u8 {
+    if words.len() <= i / 4 {
+        return 0;
+    }
+    let word = words[i / 4];
+    match i % 4 {
+        0 => (word % 0x100) as u8,
+        1 => (word / 0x100 % 0x100) as u8,
+        2 => (word / 0x1_0000 % 0x100) as u8,
+        _ => (word / 0x100_0000 % 0x100) as u8,
+    }
+}
+
+// The words as the bytes that C lends for them.
+pub fn copy_words(words: &[u32], bytes: &mut [u8]) {
+    let mut i = 0;
+    while i < bytes.len() {
+        bytes[i] = byte_at(words, i);
+        i += 1;
+    }
+}
+
+// A sum of bytes in which their order counts.
+fn sum_of_bytes(bytes: &[u8]) {
+    let mut sum: u64 = 0;
+    let mut i = 0;
+    while i < bytes.len() {
+        sum = sum % 0x100_0000_0000 * 31 + bytes[i] as u64;
+        i += 1;
+    }
+    digits(sum % 0x100_0000_0000);
+}
+
+fn sum_of_words(words: &[u32]) {
+    let mut sum: u64 = 0;
+    let mut i = 0;
+    while i < words.len() {
+        sum = sum % 0x100_0000_0000 * 31 + words[i] as u64;
+        i += 1;
+    }
+    digits(sum % 0x100_0000_0000);
+}
+
+// Writes two sums, of which a byte or a word that is otherwise changes one.
+pub fn sums(bytes: &[u8], words: &[u32]) {
+    sum_of_bytes(bytes);
+    sum_of_words(words);
+}
