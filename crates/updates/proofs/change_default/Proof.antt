@@ -1,16 +1,17 @@
 -- The code's test is that of the rules, and the last word is the default's.
 use borrow.Author.Needs.{needs}
 use Rattle.rules.specs.Table.{refuse, unless-refused, with-default}
-use Rattle.defaults.proofs.change_default.Statement.{statement}
-use Rattle.defaults.proofs.change_default.Tie as tie
+use Rattle.rules.specs.Meaning.{default-changed}
+use Rattle.updates.proofs.change_default.Statement.{statement}
+use Rattle.updates.proofs.change_default.Tie as tie
 
 returns : tie.Need-returns
-unfolding unless-refused refuse
-returns c counters = rw (← (c .before .before .default-mark .ensures), ← (c .before .is-occupied .ensures), c .if1 .taken)
+unfolding default-changed unless-refused refuse
+returns c = rw (← (c .before .before .default-mark .ensures), ← (c .before .is-occupied .ensures), c .if1 .taken)
 
 returns-2 : tie.Need-returns-2
-unfolding unless-refused refuse with-default
-returns-2 c counters =
+unfolding default-changed unless-refused refuse with-default
+returns-2 c =
     let put = c .before .before in
     let tested = put .before .before in
     rw (← (tested .before .before .default-mark .ensures), ← (tested .before .is-occupied .ensures), tested .if1 .left, put .put-default .ensures)
