@@ -7,11 +7,12 @@ use mathlib.Core.Option.{Option, some, none}
 use native.Mathlib.Omega.{arith}
 use lib.ListN.{length}
 use Rattle.rules.specs.declared.Settings.{Settings}
-use Rattle.rules.specs.declared.Place.the-variants.{At}
+use Rattle.rules.specs.declared.Place.the-variants.{At, Absent}
+use Rattle.rules.specs.declared.Vacancy.the-variants.{Free}
 use Rattle.rules.specs.Tools.{those, lowest}
 use Rattle.rules.specs.Table.{in-range, prefix, slot-number, mark-word, mark-at, occupied, holds, free, held, vacant, found-or, down-from, bit-set, set-bits, search as searched}
 use Rattle.rules.specs.Ready.{Ready, Slots}
-use Rattle.rules.proofs.Found.{InBucket}
+use Rattle.rules.specs.Meaning.{vacancy-of, bucket-place}
 use Rattle.rules.proofs.Members.{both}
 use Rattle.rules.proofs.Lowest.{some-lowest}
 use Rattle.buckets.proofs.Slots.{slot-lent}
@@ -22,23 +23,33 @@ pub record Ended (slots : List ℕ) (slot : ℕ) : Type 0 where
   pub taken : occupied (mark-at slots slot) ≡ true
 
 module _ (t : Settings) (slots : List ℕ) (sized : Slots t slots) where
-  -- a slot that was found in a bucket, held or vacant
-  lowest-lent : (p L : ℕ) (test : ℕ → Bool) {slot : ℕ} → Ready t L → InBucket t p L (lowest test (t .s)) slot → mark-word slot < length slots
-  lowest-lent p L test ready at = rw (at .number) (slot-lent t slots sized p L (at .s) ready (some-lowest test (t .s) (at .s) (at .there) .within))
-
-  pub held-lent : {p L slot : ℕ} → Ready t L → InBucket t p L (held t slots p L) slot → mark-word slot < length slots
-  unfolding held
-  held-lent {p} {L} = lowest-lent p L (holds t slots p L)
-
-  pub vacant-lent : {p L slot : ℕ} → Ready t L → InBucket t p L (vacant t slots p L) slot → mark-word slot < length slots
-  unfolding vacant
-  vacant-lent {p} {L} = lowest-lent p L (free t slots p L)
-
+  -- the slot that holds p
   pub held-ended : (p L s : ℕ) → Ready t L → held t slots p L ≡ some s → Ended slots (slot-number t p L s)
   unfolding held holds
   held-ended p L s ready e =
       let low = some-lowest (holds t slots p L) (t .s) s e in
       record { is-lent = slot-lent t slots sized p L s ready (low .within); taken = both _ _ (low .passes) .0 }
+
+  -- where the search of p's own bucket answers a slot, held or free, its words are lent
+  module _ (p L : ℕ) (ready : Ready t L) {slot : ℕ} where
+    pub held-lent : {M n : ℕ} → bucket-place t slots p L ≡ At slot M n → mark-word slot < length slots
+    unfolding bucket-place
+    held-lent {M} {n} = go (held t slots p L) refl
+      where
+        go : (o : Option ℕ) → held t slots p L ≡ o → found-or t p L 1 o (Absent (vacancy-of t p L (vacant t slots p L))) ≡ At slot M n → mark-word slot < length slots
+        go (some s) there e = let number : slot-number t p L s ≡ slot = cc in rw number at (held-ended p L s ready there .is-lent)
+        go none there e = absurd (let z : _≡_ {A = ℕ} 0 1 = cc in omega arith)
+
+    pub free-lent : bucket-place t slots p L ≡ Absent (Free slot) → mark-word slot < length slots
+    unfolding bucket-place vacant
+    free-lent = go (held t slots p L) (vacant t slots p L) refl
+      where
+        go : (o v : Option ℕ) → vacant t slots p L ≡ v → found-or t p L 1 o (Absent (vacancy-of t p L v)) ≡ Absent (Free slot) → mark-word slot < length slots
+        go none (some s) there e =
+            let number : slot-number t p L s ≡ slot = cc in
+            rw number at (slot-lent t slots sized p L s ready (some-lowest (free t slots p L) (t .s) s there .within))
+        go (some s) v there e = absurd (let z : _≡_ {A = ℕ} 0 1 = cc in omega arith)
+        go none none there e = absurd (let z : _≡_ {A = ℕ} 0 1 = cc in omega arith)
 
   -- lengths that have buckets
   pub data Lengths : List ℕ → Type 0 where

@@ -10,6 +10,7 @@ use lib.Pow.{pow-pos}
 use Rattle.rules.specs.declared.Settings.{Settings}
 use Rattle.rules.specs.declared.Place.{Place}
 use Rattle.rules.specs.declared.Place.the-variants.{At, Absent}
+use Rattle.rules.specs.declared.Vacancy.the-variants.{Full}
 use Rattle.rules.specs.Tools.{lowest}
 use Rattle.rules.specs.Table.{in-range, mark-word, set-bits, holds, held, found-or, search}
 use Rattle.rules.specs.Ready.{Slots}
@@ -27,18 +28,18 @@ less {lengths} {turn} at =
 
 -- nothing is found yet, and the search of the lengths left, after the probes made, gives what the whole search gives
 pub record Between (t : Settings) (slots : List ℕ) (address lengths : ℕ) (found : Place) (left probes : ℕ) : Type 0 where
-  pub nothing : found ≡ Absent
+  pub nothing : found ≡ Absent Full
   pub same : search t slots address 0 (set-bits lengths) ≡ search t slots address probes (set-bits left)
   pub few : left + probes < 2 ^ 32
 
 -- nothing is found yet, and no slot below s of the bucket holds p
 pub record Below (t : Settings) (slots : List ℕ) (p L : ℕ) (found : Place) (s : ℕ) : Type 0 where
-  pub nothing : found ≡ Absent
+  pub nothing : found ≡ Absent Full
   pub none-holds : lowest (holds t slots p L) s ≡ none
 
 module _ {t : Settings} {slots : List ℕ} where
   -- before the first length, and after the last
-  pub begun : {address lengths : ℕ} → lengths < 2 ^ 32 → Between t slots address lengths Absent lengths 0
+  pub begun : {address lengths : ℕ} → lengths < 2 ^ 32 → Between t slots address lengths (Absent Full) lengths 0
   begun h = record { nothing = refl; same = refl; few = omega arith }
 
   pub ended : {address lengths left probes : ℕ} {found : Place} → Between t slots address lengths found left probes → left ≡ 0
@@ -47,7 +48,7 @@ module _ {t : Settings} {slots : List ℕ} where
   ended between last = between .nothing ∙ sym (between .same ∙ rw (last, set-bits-zero))
 
   -- before the first slot of a bucket
-  pub opened : {p L : ℕ} {found : Place} → found ≡ Absent → Below t slots p L found 0
+  pub opened : {p L : ℕ} {found : Place} → found ≡ Absent Full → Below t slots p L found 0
   unfolding lowest
   opened nothing = record { nothing = nothing; none-holds = refl }
 

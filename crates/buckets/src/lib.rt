@@ -5,25 +5,14 @@ ghost use Prim.Native.Nat.{_<_};
 ghost use lib.ListN.{length, set};
 ghost use Rattle.rules.specs.Table.{in-range, slot-number, mark-word, default-word, mark-at, prefix-at, default-mark, with-slot, set-bits, search, occupied};
 ghost use Rattle.rules.specs.Ready.{Ready, Slots};
+ghost use Rattle.rules.specs.Meaning.{bucket-place};
 ghost use Rattle.buckets.specs.Turns.{Turned, holding};
-ghost use Rattle.buckets.specs.Passes.{Passed, or-this};
+ghost use Rattle.buckets.specs.Passes.{or-this};
 use hashes::bucket_of;
 use prefixes::prefix_of;
 use rules::Place;
 use rules::Settings;
-
-// The lowest free slot of a bucket, by its number; or the bucket is full.
-pub enum Vacancy {
-    At(usize),
-    Full,
-}
-
-// What one pass over a bucket finds: the slot that holds the prefix and, where none does, the lowest
-// free slot.
-pub struct Searched {
-    pub place: Place,
-    pub vacancy: Vacancy,
-}
+use rules::Vacancy;
 
 // One length's part in a search of buckets.
 pub struct Turn {
@@ -125,7 +114,7 @@ pub fn search_buckets(settings: Settings, slots: &[u32], address: u32, lengths: 
     requires { ⌜ Slots settings (now slots) ⌝ }
     ensures { λ r. ⌜ r ≡ search settings (now (slots .entry)) address 0 (set-bits lengths) ⌝ }
 {
-    let mut found = Place::Absent;
+    let mut found = Place::Absent(Vacancy::Full);
     let mut left = lengths;
     let mut probes: u32 = 0;
     'lengths: while left != 0 {
@@ -154,17 +143,17 @@ fn first_of(vacancy: Vacancy, slot: usize) -> Vacancy
     ensures { λ r. ⌜ r ≡ or-this vacancy slot ⌝ }
 {
     match vacancy {
-        Vacancy::At(earlier) => Vacancy::At(earlier),
-        Vacancy::Full => Vacancy::At(slot),
+        Vacancy::Free(earlier) => Vacancy::Free(earlier),
+        Vacancy::Full => Vacancy::Free(slot),
     }
 }
 
 // Searches a prefix's own bucket at a length, from the lowest slot up to the one that is occupied and
 // holds the prefix, and keeps the first free slot on the way.
-pub fn search_bucket(settings: Settings, slots: &[u32], p: u32, length: u32) -> Searched
+pub fn search_bucket(settings: Settings, slots: &[u32], p: u32, length: u32) -> Place
     requires { ⌜ Ready settings length ⌝ }
     requires { ⌜ Slots settings (now slots) ⌝ }
-    ensures { λ r. ⌜ Passed settings (now (slots .entry)) p length r ⌝ }
+    ensures { λ r. ⌜ r ≡ bucket-place settings (now (slots .entry)) p length ⌝ }
 {
     let first = first_slot(settings, p, length);
     let mut vacancy = Vacancy::Full;
@@ -172,20 +161,16 @@ pub fn search_bucket(settings: Settings, slots: &[u32], p: u32, length: u32) -> 
     while s < settings.s {
         let slot = first + s as usize;
         if holds_at(slots, slot, p) {
-            let place = Place::At {
+            return Place::At {
                 slot,
                 length,
                 probes: 1,
             };
-            return Searched { place, vacancy };
         }
         if !is_occupied(mark_at(slots, slot)) {
             vacancy = first_of(vacancy, slot);
         }
         s += 1;
     }
-    Searched {
-        place: Place::Absent,
-        vacancy,
-    }
+    Place::Absent(vacancy)
 }

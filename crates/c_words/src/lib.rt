@@ -13,6 +13,7 @@ use buckets::is_occupied;
 use buckets::turn_of;
 use rules::Place;
 use rules::Settings;
+use rules::Vacancy;
 
 // How many words the bytes are; bytes that are no whole words are none.
 pub fn word_count(bytes: &[u8]) -> usize
@@ -82,7 +83,7 @@ pub fn search_bytes(settings: Settings, slots: &[u8], address: u32, lengths: u32
     requires { ⌜ Slots settings (words (now slots)) ⌝ }
     ensures { λ r. ⌜ r ≡ search settings (words (now (slots .entry))) address 0 (set-bits lengths) ⌝ }
 {
-    let mut found = Place::Absent;
+    let mut found = Place::Absent(Vacancy::Full);
     let mut left = lengths;
     let mut probes: u32 = 0;
     'lengths: while left != 0 {

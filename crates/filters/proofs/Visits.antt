@@ -12,13 +12,13 @@ use lib.Seq.{slice, slice-cons, getD-set-same, getD-set-other, getD-take}
 use borrow.Author.Tests.{eq-eqb, ne-eqb, eqb-true, eqb-false, le-ltb, ltb-false}
 use Rattle.rules.specs.declared.Settings.{Settings}
 use Rattle.rules.specs.Tools.{count}
-use Rattle.rules.specs.Table.{counter-places, hits, passes-15, runs-short, step-each}
+use Rattle.rules.specs.Table.{counter-places, hits, refuse, passes-15, runs-short, step-each}
 use Rattle.rules.specs.Ready.{Ready, Counters}
 use Rattle.rules.proofs.Members.{Among, among-head, among-tail, any-false, any-none}
 use Rattle.rules.proofs.Placing.{ranges, counter-fits, places-length, places-inside}
 use Rattle.filters.specs.declared.Step.{Step}
 use Rattle.filters.specs.declared.Step.the-variants.{Raise, Lower}
-use Rattle.filters.specs.Visits.{k-places, PlacesOf, Inside, cannot, stepped, cannot-at, some-cannot}
+use Rattle.filters.specs.Visits.{k-places, PlacesOf, Inside, cannot, stepped, cannot-at, some-cannot, step-number}
 
 -- ---- Visits
 
@@ -118,6 +118,13 @@ module _ {step : Step} {k : ℕ} {at entry counters : List ℕ} {i : ℕ} (s : S
 
 -- ---- Callers
 
+-- where no number is given, every counter can take its hits
+pub can-step : (step : Step) (cannot : Bool) {r : ℕ} → r ≡ refuse cannot (step-number step) 0 → r ≡ 0 → cannot ≡ false
+unfolding refuse
+can-step step false given none = refl
+can-step Raise true given none = absurd (omega arith)
+can-step Lower true given none = absurd (omega arith)
+
 -- The places of p at length L.
 module _ {t : Settings} {p L : ℕ} {places : List ℕ} (of : PlacesOf t p L places) where
   -- they are the counters'
@@ -135,14 +142,14 @@ module _ {t : Settings} {p L : ℕ} {places : List ℕ} (of : PlacesOf t p L pla
             rw (sized .size, ← getD-take (t .k) places i 0 less, of .are) (counter-fits t L _ ready (places-inside t p L ready _ there));
       }
 
-  -- a raise passes 15, and a lowering runs short, as the rules say
-  pub cannot-raise : (counters : List ℕ) → some-cannot Raise counters (k-places t places) ≡ passes-15 t counters p L
+  -- 9 is given where a raise passes 15, and 10 where a lowering runs short, as the rules say
+  pub cannot-raise : (counters : List ℕ) → refuse (some-cannot Raise counters (k-places t places)) (step-number Raise) 0 ≡ refuse (passes-15 t counters p L) 9 0
   unfolding some-cannot passes-15 hits
-  cannot-raise counters = ap (some-cannot Raise counters) (of .are)
+  cannot-raise counters = rw (of .are)
 
-  pub cannot-lower : (counters : List ℕ) → some-cannot Lower counters (k-places t places) ≡ runs-short t counters p L
+  pub cannot-lower : (counters : List ℕ) → refuse (some-cannot Lower counters (k-places t places)) (step-number Lower) 0 ≡ refuse (runs-short t counters p L) 10 0
   unfolding some-cannot runs-short hits
-  cannot-lower counters = ap (some-cannot Lower counters) (of .are)
+  cannot-lower counters = rw (of .are)
 
   -- and so are the counters stepped
   pub raised : (counters : List ℕ) → step-each (stepped Raise) counters (k-places t places) ≡ step-each (λ n. n + 1) counters (counter-places t p L)

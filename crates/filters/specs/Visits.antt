@@ -49,6 +49,11 @@ abbrev pub cannot : Step → (counter hits : ℕ) → Bool
 cannot Raise counter hits = ltb 15 (counter + hits)
 cannot Lower counter hits = ltb counter hits
 
+-- the number that says so of some counter: 9 to an add, which raises, and 10 to a withdrawal, which lowers
+abbrev pub step-number : Step → ℕ
+step-number Raise = 9
+step-number Lower = 10
+
 -- a counter after one step
 abbrev pub stepped : Step → (counter : ℕ) → ℕ
 stepped Raise counter = counter + 1

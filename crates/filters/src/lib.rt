@@ -2,9 +2,9 @@
 ghost use mathlib.Core.Path.{_≡_};
 ghost use mathlib.Core.Bool.{false};
 ghost use Prim.Native.Nat.{_+_, _*_, _%_, _^_, _≤_};
-ghost use Rattle.rules.specs.Table.{wrap, filter-start, claims, step-each};
+ghost use Rattle.rules.specs.Table.{wrap, filter-start, refuse, claims, step-each};
 ghost use Rattle.rules.specs.Ready.{Ready, Counters};
-ghost use Rattle.filters.specs.Visits.{Filter, Placed, PlacesOf, Whole, Inside, Hits, k-places, cannot, stepped, some-cannot};
+ghost use Rattle.filters.specs.Visits.{Filter, Placed, PlacesOf, Whole, Inside, Hits, k-places, cannot, stepped, some-cannot, step-number};
 use hashes::product;
 use hashes::top_bits;
 use rules::Settings;
@@ -138,19 +138,29 @@ fn cannot_take(step: Step, counter: u8, hits: u32) -> bool
     }
 }
 
-// Whether some counter at these places cannot take its hits.
-pub fn cannot_step(settings: Settings, counters: &[u8], places: &Places, step: Step) -> bool
+// The number of an update whose counters cannot take their hits.
+fn number_of(step: Step) -> u32
+    ensures { λ r. ⌜ r ≡ step-number step ⌝ }
+{
+    match step {
+        Step::Raise => 9,
+        Step::Lower => 10,
+    }
+}
+
+// That number where some counter at these places cannot take its hits, and else 0.
+pub fn refuse_step(settings: Settings, counters: &[u8], places: &Places, step: Step) -> u32
     requires { ⌜ Inside settings (now counters) (now places) ⌝ }
-    ensures { λ r. ⌜ r ≡ some-cannot step (now (counters .entry)) (k-places settings (now (places .entry))) ⌝ }
+    ensures { λ r. ⌜ r ≡ refuse (some-cannot step (now (counters .entry)) (k-places settings (now (places .entry)))) (step-number step) 0 ⌝ }
 {
     for i in 0..settings.k as usize {
         let place = places[i];
         let hits = hits_at(settings, places, place);
         if cannot_take(step, counters[place], hits) {
-            return true;
+            return number_of(step);
         }
     }
-    false
+    0
 }
 
 // A counter after one step that it can take.

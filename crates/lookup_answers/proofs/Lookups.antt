@@ -11,6 +11,7 @@ use Rattle.rules.specs.declared.Settings.{Settings}
 use Rattle.rules.specs.declared.Answer.{Answer}
 use Rattle.rules.specs.declared.Place.{Place}
 use Rattle.rules.specs.declared.Place.the-variants.{At, Absent}
+use Rattle.rules.specs.declared.Vacancy.{Vacancy}
 use Rattle.rules.specs.Table.{in-range, lent, mark-word, mark-at, default-mark, memory-refusal, set-bits, search as searched, route-answer, default-answer, place-answer, refused, lookup}
 use Rattle.rules.specs.Ready.{Slots}
 use Rattle.rules.proofs.Placing.{occupied-low}
@@ -49,7 +50,7 @@ module _ {t : Settings} {slots : List ℕ} {address v : ℕ} {place : Place} (s 
     unfolding place-answer
     route-answers is given = by-place (given ∙ rw (at, is))
 
-  pub default-answers : {mark ones : ℕ} {answer : Answer} → place ≡ Absent → mark ≡ default-mark t slots → ones ≡ length (set-bits v)
+  pub default-answers : {mark ones : ℕ} {vacancy : Vacancy} {answer : Answer} → place ≡ Absent vacancy → mark ≡ default-mark t slots → ones ≡ length (set-bits v)
       → answer ≡ default-answer mark ones → answer ≡ place-answer t slots (length (set-bits v)) (searched t slots address 0 (set-bits v))
   unfolding place-answer
   default-answers absent is many given = by-place (given ∙ rw (absent, is, many))

@@ -36,7 +36,7 @@ pub fn answer_in_words(settings: Settings, slots: &[u32], address: u32, claimed:
             length,
             probes,
         } => answer_route(mark_at(slots, slot), length, probes),
-        Place::Absent => answer_default(default_mark(settings, slots), u32::count_ones(claimed)),
+        Place::Absent(_) => answer_default(default_mark(settings, slots), u32::count_ones(claimed)),
     }
 }
 
@@ -53,7 +53,7 @@ pub fn answer_in_bytes(settings: Settings, slots: &[u8], address: u32, claimed: 
             length,
             probes,
         } => answer_route(c_words::mark_at(slots, slot), length, probes),
-        Place::Absent => answer_default(
+        Place::Absent(_) => answer_default(
             c_words::default_mark(settings, slots),
             u32::count_ones(claimed),
         ),

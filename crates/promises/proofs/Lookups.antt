@@ -13,6 +13,7 @@ use lib.Dec.{eqb, leb, leb·zero}
 use borrow.Author.Tests.{eqb-true, eq-eqb, le-leb, lt-leb}
 use Rattle.rules.specs.declared.Settings.{Settings}
 use Rattle.rules.specs.declared.Place.the-variants.{At, Absent}
+use Rattle.rules.specs.declared.Vacancy.the-variants.{Full}
 use Rattle.rules.specs.declared.Answer.{Answer}
 use Rattle.rules.specs.Tools.{those}
 use Rattle.rules.specs.Table.{prefix, positions, Memory, slot-number, occupied, hop-of, mark-at, default-mark, held, claims, bits-where, vector-of, match-vector, down-from, search, route-answer, default-answer, place-answer, answer-of, lookup}
@@ -48,13 +49,13 @@ module _ (t : Settings) (slots : List ℕ) (address : ℕ) (claimed : ℕ → Bo
   Misses L = held t slots (prefix address L) L ≡ none
 
   -- where no length holds it, the search finds nothing
-  search-misses : (n k : ℕ) → ((L : ℕ) → 1 ≤ L → L ≤ n → Misses L) → search t slots address k (those claimed (down-from n)) ≡ Absent
+  search-misses : (n k : ℕ) → ((L : ℕ) → 1 ≤ L → L ≤ n → Misses L) → search t slots address k (those claimed (down-from n)) ≡ Absent Full
   unfolding search those down-from
   search-misses zero k none-held = refl
   search-misses (suc n) k none-held = go (claimed (suc n)) (λ j. search-misses n j (λ L lo hi. none-held L lo (le-step hi)))
     where
       go : (b : Bool) → ((j : ℕ) → search t slots address j (those claimed (down-from n)) ≡ Absent)
-          → search t slots address k (cond b (suc n ∷ those claimed (down-from n)) (those claimed (down-from n))) ≡ Absent
+          → search t slots address k (cond b (suc n ∷ those claimed (down-from n)) (those claimed (down-from n))) ≡ Absent Full
       go true rest = rw (none-held (suc n) (omega arith) (le-refl (suc n))) (rest (k + 1))
       go false rest = rest k
 

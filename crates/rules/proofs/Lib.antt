@@ -2,11 +2,11 @@
 pub mod Answers
 pub mod Calls
 pub mod Equal
-pub mod Found
 pub mod Levels
 pub mod Lists
 pub mod Lowest
 pub mod Marks
+pub mod Meaning
 pub mod Members
 pub mod Placing
 pub mod Prefixes

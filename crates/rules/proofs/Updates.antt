@@ -1,4 +1,4 @@
--- What each update leaves past its checks, and how it ends by what its checks and its search of the bucket found.
+-- What each update leaves past its checks, and how it ends at its first ones.
 use Prim.Native.Nat.{ℕ, _+_, _-_}
 use mathlib.Core.Path.{_≡_, refl, sym, ap, _∙_}
 use mathlib.Core.Bool.{Bool, true, false, cond, not}
@@ -12,7 +12,6 @@ use Rattle.rules.specs.declared.Settings.{Settings}
 use Rattle.rules.specs.Table.{Memory, lent, left, default-word, prefix-word, mark-word, mark-of, slot-number, mark-at, prefix-at, default-mark, occupied, holds, held, vacant, is-some, stored, refuse, from-1, needs-slot, full, passes-15, runs-short, route-refusal, unless-refused, with-slot, with-default, with-found, counter-places, step-each, add-refusal, withdraw-refusal, change-refusal, added, withdrawn, changed, add, withdraw, change}
 use Rattle.rules.proofs.Members.{both}
 use Rattle.rules.proofs.Lowest.{some-lowest}
-use Rattle.rules.proofs.Found.{InBucket}
 use Rattle.rules.proofs.Refusals.{RouteFitted, HopFitted, route-fits, route-passing, hop-passing, stopped, refused-by}
 
 -- ---- Which prefixes need a slot
@@ -110,94 +109,3 @@ module _ (t : Settings) (counters slots : List ℕ) (p L : ℕ) {given : ℕ} (b
     pub add-refused : add t (lent counters slots) p L hop ≡ left given counters slots
     unfolding add add-refusal
     add-refused = refused-by (add-refusal t (lent counters slots) p L hop) _ _ (stopped (hop-passing t (lent counters slots) p L hop) e bad _) bad
-
--- ---- How a withdrawal ends, past 1 to 4
-
-module _ {t : Settings} {counters slots : List ℕ} {p L : ℕ} (fit : RouteFitted t counters slots p L) where
-  pub withdraw-at-0 : L ≡ 0 → withdraw t (lent counters slots) p L
-      ≡ unless-refused (refuse (not (occupied (default-mark t slots))) 7 0) (with-default t (lent counters slots) 0) (lent counters slots)
-  unfolding withdraw withdraw-refusal stored from-1 refuse withdrawn
-  withdraw-at-0 z = rw (route-fits t counters slots p L fit, eq-eqb L 0 z)
-
-  module _ (up : L ≡ 0 → ⊥) where
-    withdraw-number : withdraw-refusal t (lent counters slots) p L
-        ≡ refuse (not (is-some (held t slots p L))) 7 (refuse (runs-short t counters p L) 10 0)
-    unfolding withdraw-refusal stored from-1
-    withdraw-number = route-fits t counters slots p L fit _ ∙ rw (ne-eqb L 0 up)
-
-    pub withdraw-absent : held t slots p L ≡ none → withdraw t (lent counters slots) p L ≡ left 7 counters slots
-    unfolding withdraw unless-refused refuse is-some
-    withdraw-absent nowhere = rw (withdraw-number, nowhere)
-
-    module _ {slot : ℕ} (at : InBucket t p L (held t slots p L) slot) where
-      pub withdraw-short : runs-short t counters p L ≡ true → withdraw t (lent counters slots) p L ≡ left 10 counters slots
-      unfolding withdraw unless-refused refuse is-some
-      withdraw-short short = rw (withdraw-number, at .there, short)
-
-      pub withdraw-slot : runs-short t counters p L ≡ false → withdraw t (lent counters slots) p L
-          ≡ left 0 (step-each (λ n. n - 1) counters (counter-places t p L)) (with-slot slots slot 0 0)
-      unfolding withdraw unless-refused refuse is-some
-      withdraw-slot enough =
-          rw (withdraw-number, at .number, withdrawn-slot t (lent counters slots) p L up (at .s) (at .there), at .there, enough)
-
--- ---- How a change and an add end, past 1 to 5
-
-module _ {t : Settings} {counters slots : List ℕ} {p L hop : ℕ} (fit : HopFitted t counters slots p L hop) where
-  pub change-at-0 : L ≡ 0 → change t (lent counters slots) p L hop
-      ≡ unless-refused (refuse (not (occupied (default-mark t slots))) 7 0) (with-default t (lent counters slots) (hop + 1)) (lent counters slots)
-  unfolding change change-refusal stored refuse changed mark-of
-  change-at-0 z = rw (route-fits t counters slots p L (fit .route), le-ltb _ _ (fit .small), eq-eqb L 0 z)
-
-  add-in-place : needs-slot t slots p L ≡ false → add t (lent counters slots) p L hop ≡ record { refusal = 0; memory = changed t (lent counters slots) p L hop }
-  unfolding add add-refusal refuse unless-refused
-  add-in-place place =
-      rw (route-fits t counters slots p L (fit .route), le-ltb _ _ (fit .small), added-in-place t (lent counters slots) p L hop place, place)
-
-  pub add-at-0 : L ≡ 0 → add t (lent counters slots) p L hop ≡ left 0 counters (set slots (default-word t) (hop + 1))
-  unfolding mark-of
-  add-at-0 z = add-in-place (default-in-place t slots p L z) ∙ rw (changed-default t (lent counters slots) p L hop z)
-
-  module _ (up : L ≡ 0 → ⊥) where
-    change-number : change-refusal t (lent counters slots) p L hop ≡ refuse (not (is-some (held t slots p L))) 7 0
-    unfolding change-refusal stored refuse
-    change-number = route-fits t counters slots p L (fit .route) _ ∙ rw (le-ltb _ _ (fit .small), ne-eqb L 0 up)
-
-    pub change-absent : held t slots p L ≡ none → change t (lent counters slots) p L hop ≡ left 7 counters slots
-    unfolding change unless-refused refuse is-some
-    change-absent nowhere = rw (change-number, nowhere)
-
-    pub change-slot : {slot : ℕ} → InBucket t p L (held t slots p L) slot → change t (lent counters slots) p L hop
-        ≡ left 0 counters (with-slot slots slot p (hop + 1))
-    unfolding change unless-refused refuse is-some mark-of
-    change-slot at = rw (change-number, at .number, changed-slot t (lent counters slots) p L hop up (at .s) (at .there), at .there)
-
-    pub add-stored : {slot : ℕ} → InBucket t p L (held t slots p L) slot → add t (lent counters slots) p L hop
-        ≡ left 0 counters (with-slot slots slot p (hop + 1))
-    unfolding mark-of
-    add-stored at =
-        add-in-place (stored-in-place t slots p L (held-is-stored t slots p L up (at .s) (at .there)))
-        ∙ rw (changed-slot t (lent counters slots) p L hop up (at .s) (at .there), at .number)
-
-    module _ (fresh : held t slots p L ≡ none) where
-      needed : needs-slot t slots p L ≡ true
-      unfolding stored is-some
-      needed = new-needs-slot t slots p L up (rw (ne-eqb L 0 up, fresh))
-
-      add-number : add-refusal t (lent counters slots) p L hop ≡ refuse (full t slots p L) 8 (refuse (passes-15 t counters p L) 9 0)
-      unfolding add-refusal refuse
-      add-number = route-fits t counters slots p L (fit .route) _ ∙ rw (le-ltb _ _ (fit .small), needed)
-
-      pub add-full : vacant t slots p L ≡ none → add t (lent counters slots) p L hop ≡ left 8 counters slots
-      unfolding add unless-refused refuse is-some full
-      add-full nowhere = rw (add-number, nowhere)
-
-      module _ {slot : ℕ} (at : InBucket t p L (vacant t slots p L) slot) where
-        pub add-past-15 : passes-15 t counters p L ≡ true → add t (lent counters slots) p L hop ≡ left 9 counters slots
-        unfolding add unless-refused refuse is-some full
-        add-past-15 passes = rw (add-number, at .there, passes)
-
-        pub add-slot : passes-15 t counters p L ≡ false → add t (lent counters slots) p L hop
-            ≡ left 0 (step-each (λ n. n + 1) counters (counter-places t p L)) (with-slot slots slot p (hop + 1))
-        unfolding add unless-refused refuse is-some full mark-of
-        add-slot level =
-            rw (add-number, at .number, added-slot t (lent counters slots) p L hop needed (at .s) (at .there), at .there, level)

@@ -3,3 +3,4 @@ pub mod Tools
 pub mod Table
 pub mod Ready
 pub mod Calls
+pub mod Meaning

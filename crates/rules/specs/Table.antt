@@ -10,6 +10,7 @@ use Rattle.rules.specs.Tools.{within, all, any, count, those, lowest}
 use Rattle.rules.specs.declared.Settings.{Settings}
 use Rattle.rules.specs.declared.Place.{Place}
 use Rattle.rules.specs.declared.Place.the-variants.{At, Absent}
+use Rattle.rules.specs.declared.Vacancy.the-variants.{Full}
 use Rattle.rules.specs.declared.Answer.{Answer}
 use Rattle.rules.specs.declared.Vector.{Vector}
 
@@ -338,7 +339,7 @@ found-or t p L probes none after = after
 
 -- the buckets of the address at these lengths are searched in order, each one probe more
 unfoldable pub search : Settings → (slots : List ℕ) (address probes : ℕ) → List ℕ → Place
-search t slots address probes [] = Absent
+search t slots address probes [] = Absent Full
 search t slots address probes (L ∷ Ls) =
     let p = prefix address L in
     found-or t p L (probes + 1) (held t slots p L) (search t slots address (probes + 1) Ls)
@@ -361,7 +362,7 @@ default-answer mark probes =
 -- what a search's place answers: its slot's hop; where there is none the default, after as many probes as the vector has ones
 unfoldable pub place-answer : Settings → (slots : List ℕ) (ones : ℕ) → Place → Answer
 place-answer t slots ones (At n L probes) = route-answer (mark-at slots n) L probes
-place-answer t slots ones Absent = default-answer (default-mark t slots) ones
+place-answer t slots ones (Absent vacancy) = default-answer (default-mark t slots) ones
 
 -- the answer that carries a refusal
 unfoldable pub refused : (refusal : ℕ) → Answer

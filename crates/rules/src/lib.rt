@@ -17,6 +17,13 @@ pub struct Settings {
     pub c: u32,
 }
 
+// What a search that ends nowhere has for a route to come: the lowest free slot of the bucket, by its
+// number; or none, since the bucket is full, or since a lookup keeps none.
+pub enum Vacancy {
+    Free(usize),
+    Full,
+}
+
 // Where a search of buckets ends: the slot's number, the length at which it lies and the buckets
 // searched; or nowhere.
 pub enum Place {
@@ -25,7 +32,7 @@ pub enum Place {
         length: u32,
         probes: u32,
     },
-    Absent,
+    Absent(Vacancy),
 }
 
 // What a lookup answers. A refusal has its number and zero elsewhere; 0 is no refusal.

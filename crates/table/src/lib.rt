@@ -2,9 +2,6 @@
 // No call requires anything: bad input gets its number and changes nothing.
 ghost use mathlib.Core.Path.{_≡_};
 ghost use Rattle.rules.specs.Table.{lent, left, clear, add, withdraw, change, match-vector, lookup, lookup-list, answered};
-use buckets::put_slot;
-use buckets::search_bucket;
-use defaults::change_default;
 use lookup_answers::answer_refused;
 use lookups::answer_in_words;
 use lookups::list_in_words;
@@ -12,11 +9,11 @@ use refusals::refuse_hop;
 use refusals::refuse_list;
 use refusals::refuse_route;
 use rules::Answer;
-use rules::Place;
 use rules::Settings;
 use rules::Vector;
 use settings::refuse_memory;
 use updates::add_checked;
+use updates::change_checked;
 use updates::withdraw_checked;
 use vectors::vector_of;
 use zeros::zero_bytes;
@@ -86,21 +83,7 @@ pub fn change(
     if refusal != 0 {
         return refusal;
     }
-    if length == 0 {
-        return change_default(settings, slots, hop + 1);
-    }
-    let found = search_bucket(settings, slots, p, length);
-    let place = found.place;
-    let Place::At {
-        slot,
-        length: _,
-        probes: _,
-    } = place
-    else {
-        return 7;
-    };
-    put_slot(slots, slot, p, hop + 1);
-    0
+    change_checked(settings, counters, slots, p, length, hop)
 }
 
 // Which lengths' filters claim an address: bit L - 1 for length L.

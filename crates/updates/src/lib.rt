@@ -1,19 +1,35 @@
-// An add and a withdrawal whose route has passed 1 to 5: what is left to ask is the slots and the counters.
+// An add, a withdrawal and a change whose route has passed 1 to 5: what is left to ask is the slots and the counters.
 ghost use mathlib.Core.Path.{_≡_};
+ghost use mathlib.Core.List.{[]};
 ghost use Prim.Native.Nat.{_≤_};
-ghost use Rattle.rules.specs.Table.{lent, left, add, withdraw};
+ghost use Rattle.rules.specs.Table.{lent, left, add, withdraw, change};
+ghost use Rattle.rules.specs.Ready.{Slots};
+ghost use Rattle.rules.specs.Meaning.{default-changed};
 ghost use Rattle.updates.specs.Checked.{Checked};
-use buckets::Vacancy;
+use buckets::default_mark;
+use buckets::is_occupied;
 use buckets::put_default;
 use buckets::put_slot;
 use buckets::search_bucket;
-use defaults::change_default;
 use filters::Step;
-use filters::cannot_step;
 use filters::places_of;
+use filters::refuse_step;
 use filters::step_each;
 use rules::Place;
 use rules::Settings;
+use rules::Vacancy;
+
+// Gives the default route, which has no counter and no bucket, another mark; 7 where it is not stored.
+fn change_default(settings: Settings, slots: &mut [u32], mark: u32) -> u32
+    requires { ⌜ Slots settings (now slots) ⌝ }
+    ensures { λ r. ⌜ default-changed settings (lent [] (now (slots .entry))) mark ≡ left r [] (now (slots .exit)) ⌝ }
+{
+    if !is_occupied(default_mark(settings, slots)) {
+        return 7;
+    }
+    put_default(settings, slots, mark);
+    0
+}
 
 // Adds a route that has passed the checks.
 pub fn add_checked(
@@ -32,27 +48,30 @@ pub fn add_checked(
         put_default(settings, slots, hop + 1);
         return 0;
     }
-    let found = search_bucket(settings, slots, p, length);
-    let place = found.place;
-    if let Place::At {
-        slot: held,
-        length: _,
-        probes: _,
-    } = place {
-        put_slot(slots, held, p, hop + 1);
-        return 0;
+    let place = search_bucket(settings, slots, p, length);
+    match place {
+        Place::At {
+            slot: held,
+            length: _,
+            probes: _,
+        } => {
+            put_slot(slots, held, p, hop + 1);
+            0
+        }
+        Place::Absent(vacancy) => {
+            let Vacancy::Free(free) = vacancy else {
+                return 8;
+            };
+            let places = places_of(settings, p, length);
+            let refusal = refuse_step(settings, counters, &places, Step::Raise);
+            if refusal != 0 {
+                return refusal;
+            }
+            put_slot(slots, free, p, hop + 1);
+            step_each(settings, counters, &places, Step::Raise);
+            0
+        }
     }
-    let vacancy = found.vacancy;
-    let Vacancy::At(free) = vacancy else {
-        return 8;
-    };
-    let places = places_of(settings, p, length);
-    if cannot_step(settings, counters, &places, Step::Raise) {
-        return 9;
-    }
-    put_slot(slots, free, p, hop + 1);
-    step_each(settings, counters, &places, Step::Raise);
-    0
 }
 
 // Withdraws a route that has.
@@ -69,8 +88,7 @@ pub fn withdraw_checked(
     if length == 0 {
         return change_default(settings, slots, 0);
     }
-    let found = search_bucket(settings, slots, p, length);
-    let place = found.place;
+    let place = search_bucket(settings, slots, p, length);
     let Place::At {
         slot,
         length: _,
@@ -80,10 +98,40 @@ pub fn withdraw_checked(
         return 7;
     };
     let places = places_of(settings, p, length);
-    if cannot_step(settings, counters, &places, Step::Lower) {
-        return 10;
+    let refusal = refuse_step(settings, counters, &places, Step::Lower);
+    if refusal != 0 {
+        return refusal;
     }
     put_slot(slots, slot, 0, 0);
     step_each(settings, counters, &places, Step::Lower);
+    0
+}
+
+// Gives a route that has a new next hop.
+pub fn change_checked(
+    settings: Settings,
+    counters: &[u8],
+    slots: &mut [u32],
+    p: u32,
+    length: u32,
+    hop: u32,
+) -> u32
+    requires { ⌜ Checked settings (now counters) (now slots) p length ⌝ }
+    requires { ⌜ hop ≤ 65535 ⌝ }
+    ensures { λ r. ⌜ change settings (lent (now (counters .entry)) (now (slots .entry))) p length hop ≡ left r (now (counters .entry)) (now (slots .exit)) ⌝ }
+{
+    if length == 0 {
+        return change_default(settings, slots, hop + 1);
+    }
+    let place = search_bucket(settings, slots, p, length);
+    let Place::At {
+        slot,
+        length: _,
+        probes: _,
+    } = place
+    else {
+        return 7;
+    };
+    put_slot(slots, slot, p, hop + 1);
     0
 }

@@ -64,9 +64,6 @@ shared-slice-read-if2 c = omega (arith, c .before .place-of2 .ensures .inside, b
 add-counter : tie.Need-add-counter Inv-loop μ-loop
 add-counter c = record { fits = omega (arith, c .before .before .before .before .loop-test .taken, ranges _ (began (c .before .before .before .before .before) .pre .0 .range) .k-high) }
 
-loop-less : tie.Need-loop-less Inv-loop μ-loop
-loop-less c = omega arith
-
 loop-again : tie.Need-loop-again Inv-loop μ-loop
 unfolding nonzero all
 loop-again c =
@@ -109,7 +106,7 @@ claims-prefix-spec =
     shared-slice-read-if2
     (λ c κs. search needs)
     add-counter
-    loop-less
+    (λ c. omega arith)
     loop-again
     returns-2
     returns-3)

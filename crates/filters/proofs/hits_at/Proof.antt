@@ -21,26 +21,8 @@ Inv-loop places place hits₀ i₀ i-end hits i =
 abbrev μ-loop : tie.MeasureT-loop
 μ-loop places place hits₀ i₀ i-end hits i = i-end - i
 
-cast-i-end : tie.Need-cast-i-end Inv-loop μ-loop
-cast-i-end c = search needs
-
 loop-holds : tie.Need-loop-holds Inv-loop μ-loop
 loop-holds c = (search needs, search needs, sym (zero-add _))
-
-mul-if1 : tie.Need-mul-if1 Inv-loop μ-loop
-mul-if1 c = omega arith
-
-element-copy-out-if1 : tie.Need-element-copy-out-if1 Inv-loop μ-loop
-element-copy-out-if1 c = omega arith
-
-add-hits : tie.Need-add-hits Inv-loop μ-loop
-add-hits c = omega arith
-
-add-i : tie.Need-add-i Inv-loop μ-loop
-add-i c = omega arith
-
-loop-less : tie.Need-loop-less Inv-loop μ-loop
-loop-less c = omega arith
 
 loop-again : tie.Need-loop-again Inv-loop μ-loop
 loop-again c =
@@ -69,12 +51,12 @@ hits-at-spec =
     (tie.spec
     Inv-loop
     μ-loop
-    cast-i-end
+    (λ c. search needs)
     loop-holds
-    mul-if1
-    element-copy-out-if1
-    add-hits
-    add-i
-    loop-less
+    (λ c. omega arith)
+    (λ c. omega arith)
+    (λ c. omega arith)
+    (λ c. omega arith)
+    (λ c. omega arith)
     loop-again
     returns)

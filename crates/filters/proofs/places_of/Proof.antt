@@ -41,9 +41,6 @@ array-write-places c = few (c .before)
 add-step : tie.Need-add-step Inv-loop μ-loop
 add-step c = omega (arith, few (c .before .before))
 
-loop-less : tie.Need-loop-less Inv-loop μ-loop
-loop-less c = omega arith
-
 loop-again : tie.Need-loop-again Inv-loop μ-loop
 loop-again c =
     let turn = c .before .before in
@@ -73,6 +70,6 @@ places-of-spec =
     array-write-places
     (λ c κs. search needs)
     add-step
-    loop-less
+    (λ c. omega arith)
     loop-again
     returns)

@@ -16,18 +16,9 @@ Inv-loop counters₀ places step i₀ i-end counters i = Stepping step i-end pla
 abbrev μ-loop : tie.MeasureT-loop
 μ-loop counters₀ places step i₀ i-end counters i = i-end - i
 
-cast-i-end : tie.Need-cast-i-end Inv-loop μ-loop
-cast-i-end c = search needs
-
 loop-holds : tie.Need-loop-holds Inv-loop μ-loop
 unfolding k-places
 loop-holds c = record { size = refl; ends = refl; fits = c .before .before .pre .1 }
-
-mul-place : tie.Need-mul-place Inv-loop μ-loop
-mul-place c = omega arith
-
-element-copy-out-place : tie.Need-element-copy-out-place Inv-loop μ-loop
-element-copy-out-place c = omega arith
 
 inside : (c : tie.In-loop Inv-loop μ-loop) → getD (now (c .before .before .before .before .args .places)) (c .before .loop .i) 0 < length (c .before .loop .counters)
 inside c =
@@ -45,12 +36,6 @@ stepped-requires c κs =
 
 slice-write-counters : tie.Need-slice-write-counters Inv-loop μ-loop
 slice-write-counters c = inside (c .before .before .before)
-
-add-i : tie.Need-add-i Inv-loop μ-loop
-add-i c = omega arith
-
-loop-less : tie.Need-loop-less Inv-loop μ-loop
-loop-less c = omega arith
 
 loop-again : tie.Need-loop-again Inv-loop μ-loop
 loop-again c =
@@ -71,15 +56,15 @@ step-each-spec =
     (tie.spec
     Inv-loop
     μ-loop
-    cast-i-end
+    (λ c. search needs)
     loop-holds
-    mul-place
-    element-copy-out-place
+    (λ c. omega arith)
+    (λ c. omega arith)
     slice-read-stepped
     stepped-requires
     slice-write-counters
-    add-i
-    loop-less
+    (λ c. omega arith)
+    (λ c. omega arith)
     loop-again
     same-length
     returns)

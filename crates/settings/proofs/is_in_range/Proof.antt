@@ -5,9 +5,6 @@ use Rattle.rules.specs.Table.{in-range}
 use Rattle.settings.proofs.is_in_range.Statement.{statement}
 use Rattle.settings.proofs.is_in_range.Tie as tie
 
-is-within-requires : tie.Need-is-within-requires
-is-within-requires c κs = search needs
-
 returns : tie.Need-returns
 unfolding in-range
 returns c = simp (told-false (c .before .is-within .ensures) (c .if1 .taken))
@@ -20,9 +17,6 @@ returns-2 c =
       told-false (c .before .before .before .pre) (c .if2 .taken),
     )
 
-is-within-requires-2 : tie.Need-is-within-requires-2
-is-within-requires-2 c κs = search needs
-
 returns-3 : tie.Need-returns-3
 unfolding in-range
 returns-3 c =
@@ -32,9 +26,6 @@ returns-3 c =
       told-true (d .before .before .before .pre) (d .if2 .left),
       told-false (c .before .is-within2 .ensures) (c .if3 .taken),
     )
-
-is-within-requires-3 : tie.Need-is-within-requires-3
-is-within-requires-3 c κs = search needs
 
 returns-4 : tie.Need-returns-4
 unfolding in-range
@@ -51,10 +42,10 @@ pub is-in-range-spec : {M : Type 1} → statement M
 is-in-range-spec =
     tie.close
     (tie.spec
-    is-within-requires
+    (λ c κs. search needs)
     returns
     returns-2
-    is-within-requires-2
+    (λ c κs. search needs)
     returns-3
-    is-within-requires-3
+    (λ c κs. search needs)
     returns-4)

@@ -1,95 +1,93 @@
--- Each way out is one of the ways in which the rules' withdraw ends, by what the search of the bucket found.
-use mathlib.Core.Path.{_≡_, _∙_, sym, ap₂}
+-- At length 0 the default's word is emptied; else the search of the bucket answers, and each of its answers means what it
+-- means to the rules' withdraw.
+use mathlib.Core.Path.{_∙_, sym, ap₂}
 use denote.Ref.{now}
 use borrow.Author.Needs.{needs}
-use Rattle.rules.specs.Table.{left, held, runs-short}
+use Rattle.rules.specs.Table.{left}
 use Rattle.rules.specs.Ready.{Ready}
-use Rattle.rules.proofs.Found.{InBucket}
-use Rattle.rules.proofs.Refusals.{RouteFitted, fitted-ready, fitted-counters, fitted-slots}
-use Rattle.rules.proofs.Updates.{withdraw-at-0, withdraw-absent, withdraw-short, withdraw-slot}
-use Rattle.buckets.proofs.Passes.{held-in, held-nowhere}
+use Rattle.rules.specs.Meaning.{place-withdrawn}
+use Rattle.rules.proofs.Meaning.{withdraw-at-0, withdraw-by-place, default-alone}
+use Rattle.rules.proofs.Refusals.{RouteFitted, fitted-ready, fitted-counters, fitted-slots, refused-by, accepted-by}
 use Rattle.buckets.proofs.Ends.{held-lent}
-use Rattle.filters.proofs.Visits.{inside-of, cannot-lower, lowered}
+use Rattle.filters.specs.declared.Step.the-variants.{Lower}
+use Rattle.filters.proofs.Visits.{inside-of, can-step, cannot-lower, lowered}
 use Rattle.updates.proofs.Checks.{route-fitted}
 use Rattle.updates.proofs.withdraw_checked.Statement.{statement}
 use Rattle.updates.proofs.withdraw_checked.Tie as tie
 
 -- what the checks have told
-fit : (c : tie.After-slice-known2) → let a = c .before .before .args in RouteFitted (a .settings) (now (a .counters)) (now (a .slots)) (a .p) (a .length)
-fit c = route-fitted (c .before .before .pre)
+fit : (c : tie.Else1) → let a = c .before .before .before .args in RouteFitted (a .settings) (now (a .counters)) (now (a .slots)) (a .p) (a .length)
+fit c = route-fitted (c .before .before .before .pre)
+
+ready : (c : tie.Else1) → let a = c .before .before .before .args in Ready (a .settings) (a .length)
+ready c = fitted-ready (fit c) (c .if1 .left)
 
 returns : tie.Need-returns
 returns c =
-    let d = c .before .before in
-    let at-0 = d .before .before in
-    withdraw-at-0 (fit (at-0 .before)) (at-0 .if1 .taken) ∙ d .change-default .ensures _
-
-ready : (c : tie.Else1) → let a = c .before .before .before .args in Ready (a .settings) (a .length)
-ready c = fitted-ready (fit (c .before)) (c .if1 .left)
+    let at-0 = c .before .before .before .before in
+    withdraw-at-0 (route-fitted (at-0 .before .before .before .pre)) (at-0 .if1 .taken) ∙ default-alone _ _ _ _ (c .before .before .change-default .ensures)
 
 returns-2 : tie.Need-returns-2
+unfolding place-withdrawn
 returns-2 c =
     let s = c .before .before in
     let up = s .before .before in
-    withdraw-absent (fit (up .before)) (up .if1 .left) (held-nowhere (s .search-bucket .ensures) (c .enum-told .given .1))
+    withdraw-by-place (fit up) (up .if1 .left) (sym (c .enum-told .given .1) ∙ s .search-bucket .ensures)
 
--- the slot that holds the prefix
-held-slot : (c : tie.After-place) → let a = c .before .before .before .before .before .before .before .args in
-    InBucket (a .settings) (a .p) (a .length) (held (a .settings) (now (a .slots)) (a .p) (a .length)) (c .place .given .0 .0)
-held-slot c = held-in (c .before .before .search-bucket .ensures) (c .place .given .1)
-
-cannot-step-requires : tie.Need-cannot-step-requires
-cannot-step-requires c κs =
+refuse-step-requires : tie.Need-refuse-step-requires
+refuse-step-requires c κs =
     let up = c .before .before .before .before .before .before .before .before in
-    inside-of (c .before .before .places-of .ensures) (ready up) (fitted-counters (fit (up .before)))
-
-step-each-requires : tie.Need-step-each-requires
-step-each-requires c κs =
-    let enough = c .before .before .before .before .before .before in
-    let up = enough .before .before .before .before .before .before .before .before .before .before in
-    (inside-of (enough .before .before .before .before .places-of .ensures) (ready up) (fitted-counters (fit (up .before))), sym (enough .before .cannot-step .ensures) ∙ enough .if2 .left)
-
--- 10 is asked as in the rules
-ten : (c : tie.After-cannot-step) → let a = c .before .before .before .before .before .before .before .before .before .before .before .before .args in
-    runs-short (a .settings) (now (a .counters)) (a .p) (a .length) ≡ c .cannot-step .result
-ten c = sym (c .cannot-step .ensures ∙ cannot-lower (c .before .before .before .places-of .ensures) _)
+    inside-of (c .before .before .places-of .ensures) (ready up) (fitted-counters (fit up))
 
 returns-3 : tie.Need-returns-3
+unfolding place-withdrawn
 returns-3 c =
-    let at = c .before .before .before .before .before .before in
+    let places = c .before .before .before .before in
+    let at = places .before .before in
     let up = at .before .before .before .before in
-    withdraw-short (fit (up .before)) (up .if1 .left) (held-slot at) (ten (c .before) ∙ c .if2 .taken)
+    withdraw-by-place (fit up) (up .if1 .left) (sym (at .place .given .1) ∙ at .before .before .search-bucket .ensures)
+    ∙ refused-by _ _ _ (c .before .refuse-step .ensures ∙ cannot-lower (places .places-of .ensures) _) (c .if2 .taken)
 
 put-slot-requires : tie.Need-put-slot-requires
 put-slot-requires c κs =
     let at = c .before .before .before .before .before .before .before in
     let up = at .before .before .before .before in
-    held-lent _ _ (fitted-slots (fit (up .before))) (ready up) (held-slot at)
+    held-lent _ _ (fitted-slots (fit up)) _ _ (ready up) (sym (at .before .before .search-bucket .ensures) ∙ at .place .given .1)
+
+step-each-requires : tie.Need-step-each-requires
+step-each-requires c κs =
+    let enough = c .before .before .before .before .before .before in
+    let places = enough .before .before .before .before in
+    let up = places .before .before .before .before .before .before in
+    (inside-of (places .places-of .ensures) (ready up) (fitted-counters (fit up)), can-step Lower _ (enough .before .refuse-step .ensures) (enough .if2 .left))
 
 returns-4 : tie.Need-returns-4
+unfolding place-withdrawn
 returns-4 c =
     let stepped = c .before .before in
     let put = stepped .before .before .before .before .before in
     let enough = put .before .before in
-    let at = enough .before .before .before .before .before .before in
+    let places = enough .before .before .before .before in
+    let at = places .before .before in
     let up = at .before .before .before .before in
-    withdraw-slot (fit (up .before)) (up .if1 .left) (held-slot at) (ten (enough .before) ∙ enough .if2 .left)
-    ∙ ap₂ (left 0) (sym (stepped .step-each .ensures ∙ lowered (enough .before .before .before .before .places-of .ensures) _)) (sym (put .put-slot .ensures))
+    withdraw-by-place (fit up) (up .if1 .left) (sym (at .place .given .1) ∙ at .before .before .search-bucket .ensures)
+    ∙ accepted-by _ _ _ (enough .before .refuse-step .ensures ∙ cannot-lower (places .places-of .ensures) _) (enough .if2 .left)
+    ∙ ap₂ (left 0) (sym (stepped .step-each .ensures ∙ lowered (places .places-of .ensures) _)) (sym (put .put-slot .ensures))
 
 pub withdraw-checked-spec : {M : Type 1} → statement M
 withdraw-checked-spec =
     tie.close
     (tie.spec
-    (λ c κs. fitted-slots (fit (c .before .before)))
+    (λ c κs. search needs)
     (λ c. search needs)
     returns
-    (λ c κs. (ready (c .before), fitted-slots (fit (c .before .before))))
+    (λ c κs. search needs)
     (λ c. search needs)
     (λ c. search needs)
     (λ c. search needs)
     returns-2
-    (λ c κs. ready (c .before .before .before .before .before))
-    cannot-step-requires
+    (λ c κs. search needs)
+    refuse-step-requires
     (λ c. search needs)
     (λ c. search needs)
     returns-3
