@@ -3,7 +3,7 @@
 use Prim.Native.Nat.{ℕ, zero, suc}
 use mathlib.Core.Path.{_≡_, refl}
 use mathlib.Core.Bool.{true}
-use mathlib.Core.List.{List, [], _∷_, _++_, map, map-id}
+use mathlib.Core.List.{List, [], _∷_, map, map-id}
 use native.Mathlib.Omega.{arith}
 use lib.Dec.{ltb, lit<}
 use lib.ListN.{length, replicate}
@@ -21,7 +21,7 @@ use denote.Struct.Laws.{val}
 use borrow.Author.Tests.{ltb-true}
 use Rattle.rules.specs.declared.Settings.{Settings}
 use Rattle.rules.specs.Table.{Memory, lent, clear, add, lookup, answer-words, list-words, listed, fourfold, list-refusal, lookup-list}
-use Rattle.rules.specs.Calls.{Call, Clear, Add, Withdraw}
+use Rattle.rules.specs.Calls.{Clear, Add}
 use Rattle.rules.proofs.Members.{both}
 use Rattle.rules.proofs.Settings.{the-type}
 use Rattle.rules.proofs.Settings.Laws.{the-laws}
@@ -33,8 +33,10 @@ use Rattle.promises.specs.Demands.{Finds, SaysNone, Words, answer-at, paper}
 use Rattle.promises.proofs.Agree.{sevens, showing}
 use Rattle.promises.proofs.Paper.{route}
 use Rattle.promises.proofs.Matches.{right}
+use Rattle.promises.proofs.Premises.{U}
 use Rattle.promises.proofs.Promises.{finds-longest, says-none}
 use Rattle.message_promises.specs.Heard.{heard-calls}
+use Rattle.message_promises.proofs.Premises.{message, hops, calls}
 use Rattle.caller_promises.proofs.Contracts.{Called, ClearCalled, AddCalled, Looked, LookupCalled, looked-given, looked-word, ListCalled, LookupListCalled, place-looked}
 use Rattle.caller_promises.proofs.Messages.{MessageCalled, ApplyMessageCalled}
 use Rattle.caller_promises.proofs.Callers.{Single, Addresses, Heard, served-history, served-stores}
@@ -143,13 +145,6 @@ list-none = rw (looked-given (place-looked list-called refl 1 (lit< tt)))
 
 -- ---- A message, under filters of unequal size
 
--- D is 5 at length 8, 6 at 16, 7 at 32, and 4 at the rest
-abbrev lengths : List ℕ
-lengths = replicate 7 4 ++ (5 ∷ replicate 7 4) ++ (6 ∷ replicate 15 4) ++ 7 ∷ []
-
-abbrev U : Settings
-U = with-list lengths
-
 -- lent memory of the sizes of U that held sevens, and what a clear leaves of it
 abbrev before-U : Memory
 before-U = lent (replicate 688 7) (replicate 257 7)
@@ -157,44 +152,33 @@ before-U = lent (replicate 688 7) (replicate 257 7)
 abbrev empty-U : Memory
 empty-U = clear U before-U .memory
 
--- it withdraws 11/8, which is not stored, and announces 10/8 with the hop of 192.0.2.1
-abbrev message : List ℕ
-message = replicate 16 255 ++ (0 ∷ 34 ∷ 2 ∷ 0 ∷ 2 ∷ 8 ∷ 11 ∷ 0 ∷ 7 ∷ 64 ∷ 3 ∷ 4 ∷ 192 ∷ 0 ∷ 2 ∷ 1 ∷ 8 ∷ 10 ∷ [])
-
-abbrev hops : List ℕ
-hops = ip 198 51 100 1 ∷ ip 192 0 2 1 ∷ []
-
--- it is heard as two calls
-abbrev heard : List Call
-heard = Withdraw (ip 11 0 0 0) 8 ∷ Add (ip 10 0 0 0) 8 1 ∷ []
-
--- what it leaves
+-- what the message leaves, which withdraws 11/8, not stored, and announces 10/8 with the hop of 192.0.2.1
 abbrev told : Memory
 told = apply-message U empty-U message hops .memory
 
 clear-called-U : Called U Clear before-U 0 empty-U
 unfolding showing
 clear-called-U = ClearCalled lifetimes (U, (lending (before-U .counters), (lending (before-U .slots), tt))) 0 (U, (lending (empty-U .counters), (lending (empty-U .slots), tt)))
-    (settings-good lengths refl refl, ((lit< tt, lit< tt), ((lit< tt, lit< tt), tt))) refl
+    (settings-good (U .d) refl refl, ((lit< tt, lit< tt), ((lit< tt, lit< tt), tt))) refl
 
 message-called : MessageCalled U empty-U message hops (record { refusal = 0; accepted = 1; refused = 1 }) told
 unfolding reading showing
 message-called = ApplyMessageCalled ([], ([], ([], ([], tt))))
     (U, (lending (empty-U .counters), (lending (empty-U .slots), (lending message, (lending hops, tt))))) (record { refusal = 0; accepted = 1; refused = 1 })
     (U, (lending (told .counters), (lending (told .slots), (lending message, (lending hops, tt)))))
-    (settings-good lengths refl refl, ((lit< tt, lit< tt), ((lit< tt, lit< tt), ((lit< tt, lit< tt), ((lit< tt, lit< tt), tt))))) refl refl
+    (settings-good (U .d) refl refl, ((lit< tt, lit< tt), ((lit< tt, lit< tt), ((lit< tt, lit< tt), ((lit< tt, lit< tt), tt))))) refl refl
 
 -- the first call is refused, and the second accepted
-message-served : History U heard (7 ∷ 0 ∷ []) told
+message-served : History U calls (7 ∷ 0 ∷ []) told
 unfolding heard-calls reading showing
 message-served = served-history clear-called-U (Then (Heard message-called) Stop)
 
 -- what is stored is what the two calls leave on paper
-message-stored : stored heard (7 ∷ 0 ∷ []) ≡ paper U [] heard .last
+message-stored : stored calls (7 ∷ 0 ∷ []) ≡ paper U [] calls .last
 unfolding heard-calls reading showing
 message-stored = served-stores clear-called-U (Then (Heard message-called) Stop)
 
 -- 10.2.2.3 gets the hop of the list's second place
 message-found : Finds (lookup U told (ip 10 2 2 3)) (route (ip 10 0 0 0) 8 1)
 unfolding showing
-message-found = finds-longest message-served (ip 10 2 2 3) (lit< tt) (route (ip 10 0 0 0) 8 1) (right (ip 10 2 2 3) (stored heard (7 ∷ 0 ∷ [])))
+message-found = finds-longest message-served (ip 10 2 2 3) (lit< tt) (route (ip 10 0 0 0) 8 1) (right (ip 10 2 2 3) (stored calls (7 ∷ 0 ∷ [])))

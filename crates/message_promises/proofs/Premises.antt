@@ -18,6 +18,7 @@ use Rattle.promises.specs.Demands.{some-below, every-below, outside, Finds, Fir
 use Rattle.promises.proofs.Agree.{sevens, showing}
 use Rattle.promises.proofs.Paper.{route}
 use Rattle.promises.proofs.Matches.{right}
+use Rattle.promises.proofs.Premises.{U}
 use Rattle.promises.proofs.Histories.{made, history-of}
 use Rattle.promises.proofs.Promises.{finds-longest}
 use Rattle.message_promises.specs.Heard.{heard-calls, bad-prefixes, bad-attributes, bad-from-attributes, bad-parts, malformed, unknown, no-hop}
@@ -30,16 +31,16 @@ unfolding heard-calls bad-prefixes bad-attributes bad-from-attributes bad-parts 
 hearing = 0
 
 -- it withdraws 11/8, which is not stored, and announces 10/8 with the hop of 192.0.2.1
-abbrev message : List ℕ
+abbrev pub message : List ℕ
 message = replicate 16 255 ++ (0 ∷ 34 ∷ 2 ∷ 0 ∷ 2 ∷ 8 ∷ 11 ∷ 0 ∷ 7 ∷ 64 ∷ 3 ∷ 4 ∷ 192 ∷ 0 ∷ 2 ∷ 1 ∷ 8 ∷ 10 ∷ [])
 
-abbrev hops : List ℕ
+abbrev pub hops : List ℕ
 hops = ip 198 51 100 1 ∷ ip 192 0 2 1 ∷ []
 
-abbrev calls : List Call
+abbrev pub calls : List Call
 calls = Withdraw (ip 11 0 0 0) 8 ∷ Add (ip 10 0 0 0) 8 1 ∷ []
 
-its-calls : message-calls message hops ≡ calls
+pub its-calls : message-calls message hops ≡ calls
 unfolding hearing
 its-calls = refl
 
@@ -51,10 +52,6 @@ record Worked (t : Settings) (before : Memory) : Type 0 where
 at-T : Worked T sevens
 unfolding hearing
 at-T = record { cleared = refl; numbers = refl }
-
--- T with other filters: D is 5 at length 8, 6 at 16, 7 at 32, and 4 at the rest
-abbrev U : Settings
-U = record { k = 2; d = replicate 7 4 ++ (5 ∷ replicate 7 4) ++ (6 ∷ replicate 15 4) ++ 7 ∷ []; e = 1; s = 2; a = 1; b = 2; c = 1 }
 
 at-U : Worked U (record { counters = replicate 688 7; slots = replicate 257 7 })
 unfolding hearing
