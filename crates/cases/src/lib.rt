@@ -177,25 +177,23 @@ pub fn damage(counters: &mut [u8], slots: &mut [u32], case: u64) {
     }
 }
 
-// A byte of the words, the low one of each first, and 0 past the last.
-fn byte_at(words: &[u32], i: usize) -> u8 {
-    if words.len() <= i / 4 {
-        return 0;
+// Puts a word into the bytes that C lends for it, the low byte first.
+fn put_bytes(bytes: &mut [u8], place: usize, word: u32) {
+    if bytes.len() / 4 <= place {
+        return;
     }
-    let word = words[i / 4];
-    match i % 4 {
-        0 => (word % 0x100) as u8,
-        1 => (word / 0x100 % 0x100) as u8,
-        2 => (word / 0x1_0000 % 0x100) as u8,
-        _ => (word / 0x100_0000 % 0x100) as u8,
-    }
+    let at = 4 * place;
+    bytes[at] = (word % 0x100) as u8;
+    bytes[at + 1] = (word / 0x100 % 0x100) as u8;
+    bytes[at + 2] = (word / 0x1_0000 % 0x100) as u8;
+    bytes[at + 3] = (word / 0x100_0000) as u8;
 }
 
-// The words as the bytes that C lends for them.
+// The words as the bytes that C lends for them; what is left of these stays.
 pub fn copy_words(words: &[u32], bytes: &mut [u8]) {
     let mut i = 0;
-    while i < bytes.len() {
-        bytes[i] = byte_at(words, i);
+    while i < words.len() {
+        put_bytes(bytes, i, words[i]);
         i += 1;
     }
 }

@@ -612,7 +612,22 @@ fn put_four(message: &mut [u8], place: u32, four: u32) {
     put_two(message, at + 2, at + 3, four);
 }
 
-// Reads so much of the message, in which one byte is otherwise for this time.
+// Reads so much of the message, with so many next hops.
+fn read_front(
+    t: Settings,
+    lent: Lent,
+    counters: &mut [u8],
+    slots: &mut [u32],
+    message: &[u8],
+    hops: &[u32],
+    case: u64,
+) {
+    let end = cases::bytes_lent((case / 0x100_0000 % 0x10_0000) as usize, message);
+    let count = cases::words_lent((case % 0x100_0000) as usize, hops);
+    read(t, lent, counters, slots, &message[..end], &hops[..count]);
+}
+
+// Reads the message, in which one byte is otherwise for this time.
 fn read_patched(
     t: Settings,
     lent: Lent,
@@ -625,9 +640,7 @@ fn read_patched(
     let place = (case / 0x10_0000_0000_0000 % 0x100) as usize;
     let before = byte_at(message, place);
     cases::put_byte(message, place, (case / 0x1000_0000_0000 % 0x100) as u8);
-    let end = cases::bytes_lent((case / 0x100_0000 % 0x10_0000) as usize, message);
-    let count = cases::words_lent((case % 0x100_0000) as usize, hops);
-    read(t, lent, counters, slots, &message[..end], &hops[..count]);
+    read_front(t, lent, counters, slots, message, hops, case);
     cases::put_byte(message, place, before);
 }
 

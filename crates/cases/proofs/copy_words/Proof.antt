@@ -10,7 +10,7 @@ abbrev Inv-loop : tie.InvT-loop
 Inv-loop words bytes₀ i₀ bytes i = length bytes ≡ length bytes₀
 
 abbrev μ-loop : tie.MeasureT-loop
-μ-loop words bytes₀ i₀ bytes i = length bytes₀ - i
+μ-loop words bytes₀ i₀ bytes i = length words - i
 
 pub copy-words-spec : {M : Type 1} → statement M
 copy-words-spec =
@@ -19,8 +19,9 @@ copy-words-spec =
     Inv-loop
     μ-loop
     (λ c. search needs)
-    (λ c κs. search needs)
     (λ c. search needs)
+    (λ c. search needs)
+    (λ c κs. search needs)
     (λ c. search needs)
     (λ c. search needs)
     (λ c. search needs)
