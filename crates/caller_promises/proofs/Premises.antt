@@ -1,8 +1,8 @@
--- Calls of crates/table as they were made, at their own types, meet the premises: each is written down with its arguments and
+-- Calls of crates/table and crates/message_calls as they were made, at their own types, meet the premises: each is written down with its arguments and
 -- what it gave back, and handed to the promises.
 use Prim.Native.Nat.{ℕ, zero, suc}
-use mathlib.Core.Path.{refl}
-use mathlib.Core.List.{List, [], _∷_}
+use mathlib.Core.Path.{_≡_, refl}
+use mathlib.Core.List.{List, [], _∷_, _++_}
 use native.Mathlib.Omega.{arith}
 use lib.Dec.{lit<}
 use lib.ListN.{replicate}
@@ -17,18 +17,22 @@ use denote.Struct.Declared.{row}
 use denote.Struct.Field.{u8-field}
 use denote.Struct.Laws.{val}
 use Rattle.rules.specs.Table.{Memory, clear, add, lookup, answer-words, list-words, listed, fourfold, list-refusal, lookup-list}
-use Rattle.rules.specs.Calls.{Clear, Add}
+use Rattle.rules.specs.Calls.{Call, Clear, Add, Withdraw}
 use Rattle.rules.proofs.Settings.{the-type}
 use Rattle.rules.proofs.Settings.Laws.{the-laws}
 use Rattle.rules.proofs.Worked.{ip, T}
+use Rattle.message_format.specs.Reading.{apply-message}
+use Rattle.message_format.proofs.Worked.{computing as reading}
 use Rattle.promises.specs.History.{stored, History, Stop, Then}
-use Rattle.promises.specs.Demands.{Finds, SaysNone, Words, answer-at}
+use Rattle.promises.specs.Demands.{Finds, SaysNone, Words, answer-at, paper}
 use Rattle.promises.proofs.Agree.{sevens, showing}
 use Rattle.promises.proofs.Paper.{route}
 use Rattle.promises.proofs.Matches.{right}
 use Rattle.promises.proofs.Promises.{finds-longest, says-none}
+use Rattle.message_promises.specs.Heard.{heard-calls}
 use Rattle.caller_promises.proofs.Contracts.{Called, ClearCalled, AddCalled, Looked, LookupCalled, looked-given, looked-word, ListCalled, LookupListCalled, place-looked}
-use Rattle.caller_promises.proofs.Callers.{Single, Addresses, served-history}
+use Rattle.caller_promises.proofs.Messages.{MessageCalled, ApplyMessageCalled}
+use Rattle.caller_promises.proofs.Callers.{Single, Addresses, Heard, served-history, served-stores}
 
 -- settings T as a struct of six numbers of 32 bits and an array of 32 bytes
 abbrev word : ℕ → List Val
@@ -128,3 +132,42 @@ list-none : SaysNone (answer-at two-answers 1)
 unfolding showing
 list-none = rw (looked-given (place-looked list-called refl 1 (lit< tt)))
     (says-none one-served (ip 11 0 0 1) (lit< tt) (right (ip 11 0 0 1) (stored (Add (ip 10 0 0 0) 8 7 ∷ []) (0 ∷ []))))
+
+-- ---- A message
+
+-- it withdraws 11/8, which is not stored, and announces 10/8 with the hop of 192.0.2.1
+abbrev message : List ℕ
+message = replicate 16 255 ++ (0 ∷ 34 ∷ 2 ∷ 0 ∷ 2 ∷ 8 ∷ 11 ∷ 0 ∷ 7 ∷ 64 ∷ 3 ∷ 4 ∷ 192 ∷ 0 ∷ 2 ∷ 1 ∷ 8 ∷ 10 ∷ [])
+
+abbrev hops : List ℕ
+hops = ip 198 51 100 1 ∷ ip 192 0 2 1 ∷ []
+
+-- it is heard as two calls
+abbrev heard : List Call
+heard = Withdraw (ip 11 0 0 0) 8 ∷ Add (ip 10 0 0 0) 8 1 ∷ []
+
+-- what it leaves
+abbrev told : Memory
+told = apply-message T empty message hops .memory
+
+message-called : MessageCalled T empty message hops (record { refusal = 0; accepted = 1; refused = 1 }) told
+unfolding reading showing
+message-called = ApplyMessageCalled ([], ([], ([], ([], tt))))
+    (T, (lending (empty .counters), (lending (empty .slots), (lending message, (lending hops, tt))))) (record { refusal = 0; accepted = 1; refused = 1 })
+    (T, (lending (told .counters), (lending (told .slots), (lending message, (lending hops, tt)))))
+    (settings-good, ((lit< tt, lit< tt), ((lit< tt, lit< tt), ((lit< tt, lit< tt), ((lit< tt, lit< tt), tt))))) refl refl
+
+-- the first call is refused, and the second accepted
+message-served : History T heard (7 ∷ 0 ∷ []) told
+unfolding heard-calls reading showing
+message-served = served-history clear-called (Then (Heard message-called) Stop)
+
+-- what it stores is what the two calls leave on paper
+message-stored : stored heard (7 ∷ 0 ∷ []) ≡ paper T [] heard .last
+unfolding heard-calls reading showing
+message-stored = served-stores clear-called (Then (Heard message-called) Stop)
+
+-- 10.2.2.3 gets the hop of the list's second place
+message-found : Finds (lookup T told (ip 10 2 2 3)) (route (ip 10 0 0 0) 8 1)
+unfolding showing
+message-found = finds-longest message-served (ip 10 2 2 3) (lit< tt) (route (ip 10 0 0 0) 8 1) (right (ip 10 2 2 3) (stored heard (7 ∷ 0 ∷ [])))

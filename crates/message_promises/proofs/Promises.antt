@@ -2,21 +2,21 @@
 -- history longer, and all that crates/promises says of lookups and updates holds after it as before. What is said here is what
 -- the message itself is given, by its bytes, the list of next hops and the stored routes.
 use Prim.Native.Nat.{ℕ}
-use mathlib.Core.Path.{_≡_, refl, sym, ap, _∙_}
+use mathlib.Core.Path.{_≡_, sym, ap, _∙_}
 use mathlib.Core.Bool.{true, false}
-use mathlib.Core.List.{List, [], _++_, append-cancel-left}
+use mathlib.Core.List.{List, _++_, append-cancel-left}
 use mathlib.Core.Logic.{_↔_}
 use lib.Pow.{areBytes}
 use Rattle.rules.specs.declared.Settings.{Settings}
-use Rattle.rules.specs.Table.{Memory, refuse, match-vector}
-use Rattle.rules.specs.Calls.{Call, Clear, act, run, accepted-of, refused-of}
-use Rattle.rules.proofs.Refusals.{memory-passing, passed}
+use Rattle.rules.specs.Table.{Memory, refuse}
+use Rattle.rules.specs.Calls.{Call, run, accepted-of, refused-of}
+use Rattle.rules.proofs.Refusals.{passed}
 use Rattle.message_format.specs.Reading.{Read, apply-message}
-use Rattle.promises.specs.History.{Route, stored, SingleCalls, History, Ran}
+use Rattle.promises.specs.History.{Route, stored, SingleCalls, History}
 use Rattle.promises.specs.Demands.{Reordered, paper, adds}
-use Rattle.promises.proofs.Histories.{routes-on-paper, one-made, made-append, history-of, history-more, seat-made, more-answers-on-paper, more-routes-on-paper}
-use Rattle.promises.proofs.Promises.{vector-accepted, same-numbers}
-use Rattle.message_promises.specs.Heard.{heard-calls, malformed, no-hop, Heard, OneCall, OneMessage}
+use Rattle.promises.proofs.Histories.{made-append, history-more, more-answers-on-paper, more-routes-on-paper}
+use Rattle.promises.proofs.Promises.{checks-passed, same-numbers}
+use Rattle.message_promises.specs.Heard.{heard-calls, malformed, no-hop}
 use Rattle.message_promises.proofs.Conditions.{message-checks}
 use Rattle.message_promises.proofs.Refused.{its-refusal}
 use Rattle.message_promises.proofs.Routes.{message-single, accepted-counted, refused-counted}
@@ -38,9 +38,7 @@ module _ {t : Settings} {calls : List Call} {answers : List ℕ} {m : Memory} (h
 
   -- It is refused with 12 or 13 alone, by the message and the list of next hops.
   pub message-given : applied .report .refusal ≡ refuse (malformed message) 12 (refuse (no-hop message hops) 13 0)
-  unfolding match-vector
-  message-given = its-refusal t m message hops ∙ message-checks t m message hops
-      ∙ memory-passing t m .accepts (vector-accepted history 0) _
+  message-given = its-refusal t m message hops ∙ message-checks t m message hops ∙ checks-passed history _
 
   -- It is accepted exactly if it is well-formed and what it announces has a hop.
   pub message-accepted : (applied .report .refusal ≡ 0) ↔ ((malformed message ≡ false) × (no-hop message hops ≡ false))
@@ -72,19 +70,20 @@ module _ {t : Settings} {calls : List Call} {answers : List ℕ} {m : Memory} (h
 
 -- ---- Demand 3, of a table newly cleared under these settings, to which the stored routes are added, in any order
 
--- Whatever calls and messages both were given since, by their single calls, the next message is given the same report by both.
+-- Both were given some more calls since, the single calls of messages among them, and now a message.
 module _ {t : Settings} {calls : List Call} {answers : List ℕ} {m : Memory} (history : History t calls answers m)
     {order : List Route} (same : Reordered (stored calls answers) order) {new-answers : List ℕ} {new-m : Memory} (anew : History t (adds order) new-answers new-m)
     {more : List Call} {more-answers more-new-answers : List ℕ} {last new-last : Memory}
     (made : SingleCalls t m more more-answers last) (made-anew : SingleCalls t new-m more more-new-answers new-last)
     (message hops : List ℕ) (bytes : areBytes message ≡ true) where
+  -- its single calls
   abbrev heard-by-both : List Call
   heard-by-both = heard-calls message hops (apply-message t last message hops .report .refusal)
 
   same-refusal : apply-message t new-last message hops .report .refusal ≡ apply-message t last message hops .report .refusal
   same-refusal = message-given (history-more anew made-anew) message hops ∙ sym (message-given (history-more history made) message hops)
 
-  -- The message is the same single calls on both: so it goes on, with it among what both were given.
+  -- They are the same on both, so that the message is then among what both were given, and all this holds of the next one.
   pub both-heard : SingleCalls t m (more ++ heard-by-both) (more-answers ++ run t last heard-by-both .answers) (apply-message t last message hops .memory)
       × SingleCalls t new-m (more ++ heard-by-both) (more-new-answers ++ run t new-last heard-by-both .answers) (apply-message t new-last message hops .memory)
   both-heard = (
@@ -96,24 +95,9 @@ module _ {t : Settings} {calls : List Call} {answers : List ℕ} {m : Memory} (h
   same-given = append-cancel-left more-new-answers _ _
       (same-numbers history same anew (both-heard .0) (both-heard .1) ∙ rw (same-numbers history same anew made made-anew))
 
+  -- Both give it the same report.
   pub same-reports : apply-message t new-last message hops .report ≡ apply-message t last message hops .report
   same-reports =
       let accepted = rw (same-refusal, same-given, ← accepted-counted t last message hops) at (accepted-counted t new-last message hops) in
       let refused = rw (same-refusal, same-given, ← refused-counted t last message hops) at (refused-counted t new-last message hops) in
       λ i. record { refusal = same-refusal i; accepted = accepted i; refused = refused i }
-
--- ---- A whole run
-
-heard-single : {t : Settings} (m : Memory) (calls : List Call) (answers : List ℕ) (m' : Memory) → Heard t m calls answers m' → SingleCalls t m calls answers m'
-heard-single m calls answers m' (OneCall call word) = one-made word refl
-heard-single {t} m calls answers m' (OneMessage message hops bytes) = message-single t m message hops bytes
-
-module _ {t : Settings} {calls : List Call} {answers : List ℕ} {m : Memory} (before : Memory) (accepted : act t Clear before .refusal ≡ 0)
-    (ran : Ran (Heard t) (act t Clear before .memory) calls answers m) where
-  -- Single calls and messages, in any order, after an accepted clear, are a history.
-  pub heard-history : History t calls answers m
-  heard-history = history-of before accepted (seat-made heard-single ran)
-
-  -- What they store follows from them alone: from the calls, and from the routes of each message that was not refused.
-  pub heard-stores : stored calls answers ≡ paper t [] calls .last
-  heard-stores = routes-on-paper heard-history

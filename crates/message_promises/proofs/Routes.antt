@@ -20,38 +20,31 @@ use Rattle.promises.proofs.Sums.{by-cases}
 use Rattle.message_promises.specs.Heard.{heard-calls}
 use Rattle.message_promises.proofs.Refused.{its-refusal}
 
--- Its prefixes have 32 bits.
-heard-words : (message hops : List ℕ) → areBytes message ≡ true → (refusal : ℕ) → all-word-sized (heard-calls message hops refusal) ≡ true
-unfolding heard-calls all-word-sized
-heard-words message hops bytes refusal = by-cases (eqb refusal 0) (λ good. rw good (message-words message hops bytes)) (λ bad. rw bad)
-
 module _ (t : Settings) (m : Memory) (message hops : List ℕ) where
   -- what it is given back and leaves,
   abbrev applied : Read
   applied = apply-message t m message hops
 
-  -- and the calls that a history has of it
+  -- and the calls that a history has of it, none where it is refused
   abbrev heard : List Call
   heard = heard-calls message hops (applied .report .refusal)
 
-  -- It counts what they are given, and leaves what they leave; those of a refused message are none.
-  told : applied ≡ record {
-    report = record { refusal = applied .report .refusal; accepted = accepted-of (run t m heard .answers); refused = refused-of (run t m heard .answers) };
-    memory = run t m heard .last;
-  }
-  unfolding apply-message heard-calls counts refused-message run each accepted-of refused-of those
-  told = by-cases (eqb (message-refusal t m message hops) 0) (λ good. rw good) (λ bad. rw (bad, bad))
-
-  -- So a message is part of a history as single calls are.
+  -- A message is part of a history as these calls are.
   pub message-single : areBytes message ≡ true → SingleCalls t m heard (run t m heard .answers) (applied .memory)
-  message-single bytes = rw (ap (λ r. r .memory) told) (made t m heard (heard-words message hops bytes _))
+  unfolding apply-message heard-calls counts refused-message all-word-sized run each
+  message-single bytes = by-cases (eqb (message-refusal t m message hops) 0)
+      (λ good. simp good (made t m (message-calls message hops) (message-words message hops bytes))) (λ bad. simp bad (made t m [] refl))
+
+  counted : applied .report ≡ record { refusal = applied .report .refusal; accepted = accepted-of (run t m heard .answers); refused = refused-of (run t m heard .answers) }
+  unfolding apply-message heard-calls counts refused-message run each accepted-of refused-of those
+  counted = by-cases (eqb (message-refusal t m message hops) 0) (λ good. simp good) (λ bad. simp bad)
 
   -- It counts as accepted how many of them are given 0, and as refused how many are not.
   pub accepted-counted : applied .report .accepted ≡ accepted-of (run t m heard .answers)
-  accepted-counted = ap (λ r. r .report .accepted) told
+  accepted-counted = ap (λ r. r .accepted) counted
 
   pub refused-counted : applied .report .refused ≡ refused-of (run t m heard .answers)
-  refused-counted = ap (λ r. r .report .refused) told
+  refused-counted = ap (λ r. r .refused) counted
 
   -- Together they are its routes, the withdrawn and the announced ones.
   pub routes-counted : applied .report .refusal ≡ 0

@@ -13,7 +13,7 @@ use Rattle.message_format.specs.Reading.{message-calls}
 use Rattle.message_format.specs.Writing.{writing-refusal, withdrawal, write-withdrawal}
 use Rattle.message_format.proofs.Written.{withdrawal-good, withdrawal-no-more, withdrawal-calls}
 use Rattle.message_promises.specs.Heard.{malformed, no-hop}
-use Rattle.message_promises.proofs.Conditions.{form-bad}
+use Rattle.message_promises.proofs.Form.{form-bad}
 use Rattle.message_promises.proofs.Refused.{written-left}
 
 module _ (p L : ℕ) (word : p < 2 ^ 32) (room : List ℕ) (accepted : write-withdrawal p L room .refusal ≡ 0) where

@@ -1,18 +1,15 @@
 -- What a history has of a message, and what a message and a written withdrawal can be refused for.
-use Prim.Native.Nat.{ℕ, _+_, _-_}
-use mathlib.Core.Path.{_≡_}
+use Prim.Native.Nat.{ℕ, zero, suc, _+_, _/_, _%_}
 use mathlib.Core.Bool.{Bool, true, false, cond, not, _&&_, _||_}
 use mathlib.Core.List.{List, [], _∷_, _++_}
 use mathlib.Core.Option.{Option, some, none}
 use lib.Dec.{ltb, leb, eqb}
-use lib.ListN.{length, getD}
-use lib.Pow.{areBytes}
+use lib.ListN.{length, take, drop, getD}
 use Rattle.rules.specs.declared.Settings.{Settings}
-use Rattle.rules.specs.Tools.{any}
 use Rattle.rules.specs.Table.{Memory}
-use Rattle.rules.specs.Calls.{Call, word-sized, act, run}
-use Rattle.message_format.specs.Format.{byte, two-bytes, Prefix, bytes-for, prefixes, value-size, attributes-fit, next-hops, withdrawn-from, withdrawn-to, attributes-from, announced-from, message-hop}
-use Rattle.message_format.specs.Reading.{message-calls, apply-message}
+use Rattle.rules.specs.Calls.{Call}
+use Rattle.message_format.specs.Format.{byte, from-octets, two-bytes, announced-from, message-hop}
+use Rattle.message_format.specs.Reading.{message-calls}
 use Rattle.message_format.specs.Writing.{withdrawal}
 use Rattle.promises.specs.Demands.{Condition, _when_, outside, some-below, every-below, memory-conditions, route-conditions}
 
@@ -22,52 +19,74 @@ use Rattle.promises.specs.Demands.{Condition, _when_, outside, some-below, ever
 unfoldable pub heard-calls : (message hops : List ℕ) (refusal : ℕ) → List Call
 heard-calls message hops refusal = cond (eqb refusal 0) (message-calls message hops) []
 
--- one thing that can be done under settings t, a single call or a message, as a history has it
-pub data Heard (t : Settings) : (m : Memory) (calls : List Call) (answers : List ℕ) (m' : Memory) → Type 0 where
-  OneCall : (call : Call) {m : Memory} → word-sized call ≡ true → Heard t m (call ∷ []) (act t call m .refusal ∷ []) (act t call m .memory)
-  OneMessage : (message hops : List ℕ) {m : Memory} → areBytes message ≡ true
-      → Heard t m (heard-calls message hops (apply-message t m message hops .report .refusal))
-      (run t m (heard-calls message hops (apply-message t m message hops .report .refusal)) .answers) (apply-message t m message hops .memory)
+-- ---- The form of a message
 
--- ---- Numbers given back
+-- What is wrong with a message, spelled apart from crates/message_format, which looks at places of a message: here bytes are
+-- taken off the front, one after the other, until they end. The two share how bytes are read as numbers, and no more.
 
--- how many bytes these prefixes take
-unfoldable pub size-of : List Prefix → ℕ
-size-of [] = 0
-size-of (q ∷ qs) = 1 + bytes-for (q .length) + size-of qs
+-- prefixes one after the other, with so many bytes of the first one still due: one is longer than 32, or the bytes end
+-- within one
+unfoldable pub bad-prefixes : (due : ℕ) (bytes : List ℕ) → Bool
+bad-prefixes zero [] = false
+bad-prefixes (suc due) [] = true
+bad-prefixes zero (L ∷ bytes) = ltb 32 L || bad-prefixes ((L + 7) / 8) bytes
+bad-prefixes (suc due) (b ∷ bytes) = bad-prefixes due bytes
 
--- one of them is longer than 32
-unfoldable pub too-long : List Prefix → Bool
-too-long [] = false
-too-long (q ∷ qs) = ltb 32 (q .length) || too-long qs
+-- what is due of an attribute whose flags were read: its type and then a length, of two bytes where it is long; the first of
+-- these two bytes; the last byte of its length; or so many bytes of its value, after which another attribute may stand
+pub data Due : Type 0 where
+  Kind : (long : Bool) → Due
+  High : (kind : ℕ) → Due
+  Low : (kind high : ℕ) → Due
+  Value : (left : ℕ) → Due
 
--- so in a part, or it ends before they do
-unfoldable pub bad-prefixes : (bytes : List ℕ) (at end : ℕ) → Bool
-bad-prefixes bytes at end = let qs = prefixes bytes at end in too-long qs || ltb (end - at) (size-of qs)
+-- attributes one after the other: the bytes end within one, or one is a NEXT_HOP, of type 3, that is not of four bytes or is
+-- not the first one seen
+unfoldable pub bad-attributes : (seen : Bool) → Due → (bytes : List ℕ) → Bool
+bad-attributes seen (Kind long) [] = true
+bad-attributes seen (Kind long) (kind ∷ bytes) = bad-attributes seen (cond long (High kind) (Low kind 0)) bytes
+bad-attributes seen (High kind) [] = true
+bad-attributes seen (High kind) (high ∷ bytes) = bad-attributes seen (Low kind high) bytes
+bad-attributes seen (Low kind high) [] = true
+bad-attributes seen (Low kind high) (low ∷ bytes) =
+    let size = from-octets 0 0 high low in
+    cond (eqb kind 3)
+    (seen || (not (eqb size 4) || bad-attributes true (Value size) bytes))
+    (bad-attributes seen (Value size) bytes)
+bad-attributes seen (Value zero) [] = false
+bad-attributes seen (Value zero) (flags ∷ bytes) = bad-attributes seen (Kind (eqb (flags / 16 % 2) 1)) bytes
+bad-attributes seen (Value (suc left)) [] = true
+bad-attributes seen (Value (suc left)) (b ∷ bytes) = bad-attributes seen (Value left) bytes
 
--- two NEXT_HOPs, or one not of four bytes
-unfoldable pub bad-hops : (bytes hops : List ℕ) → Bool
-bad-hops bytes hops = ltb 1 (length hops) || any (λ at. not (eqb (value-size bytes at) 4)) hops
+-- the attributes, behind two bytes with their size, and all that is left, the announced prefixes: one of them is bad, or
+-- the attributes overrun the message
+unfoldable pub bad-from-attributes : (bytes : List ℕ) → Bool
+bad-from-attributes [] = true
+bad-from-attributes (b ∷ []) = true
+bad-from-attributes (high ∷ low ∷ bytes) =
+    let size = from-octets 0 0 high low in
+    ltb (length bytes) size || (bad-attributes false (Value 0) (take size bytes) || bad-prefixes 0 (drop size bytes))
 
--- the attributes of a part end after it does, or have such NEXT_HOPs
-unfoldable pub bad-attributes : (bytes : List ℕ) (at end : ℕ) → Bool
-bad-attributes bytes at end = not (attributes-fit bytes at end) || bad-hops bytes (next-hops bytes at end)
+-- all that follows the head: the withdrawn prefixes, behind two bytes with their size, and then that
+unfoldable pub bad-parts : (bytes : List ℕ) → Bool
+bad-parts [] = true
+bad-parts (b ∷ []) = true
+bad-parts (high ∷ low ∷ bytes) =
+    let size = from-octets 0 0 high low in
+    ltb (length bytes) size || (bad-prefixes 0 (take size bytes) || bad-from-attributes (drop size bytes))
 
--- a marker not all ones, a length that is not the lent one or is outside 23 to 4,096, a type other than 2, a part that
--- overruns, or a bad prefix or attribute in one
+-- a marker not all ones, a length that is not the lent one or is outside 23 to 4,096, a type other than 2, or bad parts
 unfoldable pub malformed : (message : List ℕ) → Bool
 malformed message =
     not (every-below (λ i. eqb (byte message i) 255) 16)
     || not (eqb (two-bytes message 16) (length message))
     || outside 23 4096 (length message)
     || not (eqb (byte message 18) 2)
-    || ltb (length message) (attributes-from message)
-    || ltb (length message) (announced-from message)
-    || bad-prefixes message withdrawn-from (withdrawn-to message)
-    || bad-attributes message (attributes-from message) (announced-from message)
-    || bad-prefixes message (announced-from message) (length message)
+    || bad-parts (drop 19 message)
 
--- no NEXT_HOP, or one that no place of the list up to 65,535 has
+-- ---- Numbers given back
+
+-- no NEXT_HOP, or one that no place of the list up to 65,535 has; which one a message has is read as it is applied
 unfoldable pub unknown : (hops : List ℕ) → Option ℕ → Bool
 unknown hops none = true
 unknown hops (some address) = not (some-below (λ i. leb i 65535 && eqb (getD hops i 0) address) (length hops))
