@@ -108,7 +108,7 @@ extern "C" {
 #endif
 
 /* The version of this header, of its archive and of its pkg-config file; CHANGELOG.md tells them apart. */
-#define GATEWAY_VERSION "0.6.0"
+#define GATEWAY_VERSION "0.6.1"
 
 /* An answer that is not looked at is a refusal that nobody sees: the compiler warns of it. */
 #if defined(__GNUC__)
@@ -449,9 +449,10 @@ static inline uint32_t gateway_refused(uint64_t answer)
         (table)->settings.s, (table)->settings.a, (table)->settings.b, (table)->settings.c
 #define GATEWAY_WORDS_OF(table)                                                                    \
     (table)->counters, (table)->counters_bytes, (table)->slots, (table)->slots_words
+/* Where a size_t cannot count the bytes of so many words, one byte is lent: this is GATEWAY_BAD_SIZE too. */
 #define GATEWAY_BYTES_OF(table)                                                                    \
     (table)->counters, (table)->counters_bytes, (const uint8_t *)(table)->slots,                   \
-        4 * (table)->slots_words
+        (table)->slots_words <= (size_t)-1 / 4 ? 4 * (table)->slots_words : 1
 
 /* Empties the table: zero in every byte and word. Lent memory is a table from here on. */
 GATEWAY_ANSWERS static inline uint32_t gateway_table_clear(struct gateway_table *table)

@@ -77,6 +77,18 @@ static void run_refusals(void)
     CHECK(gateway_table_clear(&other) == GATEWAY_BAD_SETTINGS);
     CHECK(is_refused(gateway_table_lookup(&other, 0), GATEWAY_BAD_SETTINGS));
     CHECK(gateway_table_match_vector(&other, 0).refusal == GATEWAY_BAD_SETTINGS);
+
+    /* Four times so many words wraps round to the bytes of the right size. */
+    for (size_t times = 1; times <= 3; times++) {
+        other = table;
+        other.slots_words += times * ((size_t)-1 / 4 + 1);
+        CHECK(gateway_table_add(&other, 0x0a000000, 8, 7) == GATEWAY_BAD_SIZE);
+        CHECK(is_refused(gateway_table_lookup(&other, 0), GATEWAY_BAD_SIZE));
+        CHECK(gateway_table_match_vector(&other, 0).refusal == GATEWAY_BAD_SIZE);
+        CHECK(gateway_table_lookup_list(&other, NULL, 0, NULL) == GATEWAY_BAD_SIZE);
+        other.settings.k = 9;
+        CHECK(is_refused(gateway_table_lookup(&other, 0), GATEWAY_BAD_SETTINGS));
+    }
 }
 
 /* Adds a route, and tells whether that gives this number and leaves all memory as it was, but for this word where

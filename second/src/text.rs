@@ -51,7 +51,7 @@ impl Text {
         if let Some(command) = &self.command {
             return Ok(command.clone());
         }
-        let program = std::env::current_exe()?.with_file_name("bin").join("routes");
+        let program = std::env::current_exe()?.with_file_name("bin").join("text_program");
         if !program.exists() {
             let missing = format!("{} is missing: 'rt check text_program' builds it", program.display());
             return Err(io::Error::other(missing));

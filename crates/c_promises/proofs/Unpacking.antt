@@ -22,7 +22,7 @@ use Rattle.c_numbers.specs.Fitting.{Fits}
 use Rattle.message_format.specs.Reading.{refused-message, apply-message, report-number}
 use Rattle.message_format.proofs.Counting.{counts-fit}
 use Rattle.gateway.specs.Crossing.{ListCrossed}
-use Rattle.gateway.proofs.Fitting.{lookup-fits}
+use Rattle.c_numbers.proofs.Fitting.{lookup-fits}
 use Rattle.promises.proofs.Refused as demand-1
 use Rattle.message_promises.proofs.Refused.{refused-unchanged}
 use Rattle.c_promises.specs.Numbers.{gateway-refusal, gateway-found, gateway-hop, gateway-length, gateway-probes, gateway-vector, gateway-accepted, gateway-refused, read-answer, read-vector, read-report}

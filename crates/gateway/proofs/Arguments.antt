@@ -3,7 +3,7 @@ use Prim.Native.Nat.{ℕ}
 use mathlib.Core.List.{List}
 use denote.Ref.{RefT, now}
 use Rattle.rules.specs.declared.Settings.{Settings}
-use Rattle.gateway.specs.Crossing.{settings-of}
+use Rattle.c_calls.specs.Lent.{settings-of}
 
 -- the settings, which come first
 abbrev pub settings : {Rest : Type 0} → ℕ × (RefT (List ℕ) × (ℕ × (ℕ × (ℕ × (ℕ × (ℕ × Rest)))))) → Settings

@@ -1,14 +1,9 @@
--- How a C program's numbers and lists are the rules' own.
+-- What a call gives back to a C program and leaves it, as the rules have it.
 use Prim.Native.Nat.{ℕ, _*_, _^_}
 use mathlib.Core.List.{List}
 use mathlib.Core.Path.{_≡_}
-use Rattle.rules.specs.declared.Settings.{Settings}
 use Rattle.rules.specs.Table.{Outcome, lent, Listed}
 use Rattle.message_format.specs.Reading.{Read, report-number}
-
--- what comes first in every call: K, the list of D, which may have any count, and five numbers more
-abbrev pub settings-of : (k : ℕ) (d : List ℕ) (e s a b c : ℕ) → Settings
-settings-of k d e s a b c = record { k = k; d = d; e = e; s = s; a = a; b = b; c = c }
 
 -- what an update gives back and leaves: refusal·2^48, the counters and the slots
 pub record Crossed (u : Outcome) (answer : ℕ) (counters slots : List ℕ) : Type 0 where

@@ -1,33 +1,27 @@
--- A list of another count stops it; else the number and the memory are those of the table's call.
+-- The number and the memory are those of the table's call.
+use mathlib.Core.Path.{_∙_}
 use borrow.Author.Needs.{needs}
-use Rattle.rules.proofs.Told.{told-false, told-true}
-use Rattle.gateway.proofs.Counted.{withdraw-stopped}
+use Rattle.c_calls.proofs.Whole.{withdraw-alike}
+use Rattle.c_numbers.proofs.Fitting.{withdraw-fits}
 use Rattle.gateway.proofs.Crossings.{fits-above, crossed}
-use Rattle.gateway.proofs.Fitting.{withdraw-fits}
 use Rattle.gateway.proofs.gateway_withdraw.Statement.{statement}
 use Rattle.gateway.proofs.gateway_withdraw.Tie as tie
 
+refusal-part-requires : tie.Need-refusal-part-requires
+refusal-part-requires c κs = fits-above (c .before .before .before .before .withdraw .ensures) (withdraw-fits _ _ _ _)
+
 returns : tie.Need-returns
-returns c = withdraw-stopped _ (told-false (c .before .before .is-whole .ensures) (c .before .if1 .taken)) _ _ (c .refusal-part .ensures) _ _
-
-refusal-part-requires-2 : tie.Need-refusal-part-requires-2
-refusal-part-requires-2 c κs = fits-above (c .before .before .before .before .withdraw .ensures) (withdraw-fits _ _ _ _)
-
-returns-2 : tie.Need-returns-2
-returns-2 c =
+returns c =
     let call = c .before .before .before .before .before in
-    rw (call .before .before .before .settings-of .ensures) at (crossed (call .withdraw .ensures) (c .refusal-part2 .ensures))
+    crossed (withdraw-alike _ (call .before .before .before .settings-of .ensures) _ _ _ ∙ call .withdraw .ensures) (c .refusal-part .ensures)
 
 pub gateway-withdraw-spec : {M : Type 1} → statement M
 gateway-withdraw-spec =
     tie.close
     (tie.spec
-    (λ c κs. search needs)
-    (λ c κs. search needs)
-    returns
-    (λ c κs. told-true (c .before .is-whole .ensures) (c .if1 .left))
-    (λ c κs. search needs)
-    refusal-part-requires-2
+    (λ c κs. tt)
+    (λ c κs. tt)
+    refusal-part-requires
     (λ c. search needs)
     (λ c. search needs)
-    returns-2)
+    returns)

@@ -1,7 +1,7 @@
 -- The number and the room are those of the writer.
 use borrow.Author.Needs.{needs}
 use Rattle.gateway.proofs.Crossings.{list-fits-above, list-crossed}
-use Rattle.gateway.proofs.Fitting.{writing-fits}
+use Rattle.c_numbers.proofs.Fitting.{writing-fits}
 use Rattle.gateway.proofs.gateway_write_withdrawal.Statement.{statement}
 use Rattle.gateway.proofs.gateway_write_withdrawal.Tie as tie
 
@@ -13,4 +13,4 @@ returns c = list-crossed (c .before .before .before .write-withdrawal .ensures) 
 
 pub gateway-write-withdrawal-spec : {M : Type 1} → statement M
 gateway-write-withdrawal-spec =
-    tie.close (tie.spec (λ c κs. search needs) refusal-part-requires (λ c. search needs) returns)
+    tie.close (tie.spec (λ c κs. tt) refusal-part-requires (λ c. search needs) returns)

@@ -8,8 +8,9 @@ use borrow.Author.Tests.{eq-eqb, ne-eqb}
 use Rattle.rules.specs.Table.{lent, words, refuse, list-refusal, answered, c-list-refusal, c-lookup-list}
 use Rattle.rules.proofs.Refusals.{list-passing, stopped, let-by}
 use Rattle.rules.proofs.Lists.{list-passed, refused-list, accepted-list}
-use Rattle.gateway.proofs.lookup_list.Statement.{statement}
-use Rattle.gateway.proofs.lookup_list.Tie as tie
+use Rattle.c_calls.proofs.Whole.{lent-list}
+use Rattle.c_calls.proofs.lookup_list.Statement.{statement}
+use Rattle.c_calls.proofs.lookup_list.Tie as tie
 
 -- 1, 2 and 18 of the sizes, as they were checked
 checked : (c : tie.After-refuse-list) → let a = c .before .before .before .before .before .before .before .args in
@@ -35,7 +36,7 @@ list-in-bytes-requires c κs =
     let a = began .args in
     let passed = list-passed _ _ _ (now (a .counters)) (words (now (a .slots))) 0 (sym (checked (d .before)) ∙ d .if1 .left) in
     let fit = passed .0 in
-    (fit .range, (began .pre, (record { size = fit .counters-fit }, (record { size = fit .slots-fit }, (c .before .if2 .left, passed .1)))))
+    (fit .range, (lent-list _ _ (began .pre) (fit .range), (record { size = fit .counters-fit }, (record { size = fit .slots-fit }, (c .before .if2 .left, passed .1)))))
 
 returns-3 : tie.Need-returns-3
 unfolding c-lookup-list c-list-refusal refuse
@@ -52,8 +53,8 @@ pub lookup-list-spec : {M : Type 1} → statement M
 lookup-list-spec =
     tie.close
     (tie.spec
-    (λ c κs. search needs)
-    (λ c κs. search needs)
+    (λ c κs. tt)
+    (λ c κs. tt)
     returns
     returns-2
     list-in-bytes-requires

@@ -1,13 +1,13 @@
 -- The checks are those of the rules, and past them the vector and what it answers are.
 use mathlib.Core.Path.{_∙_, sym}
 use denote.Ref.{now}
-use borrow.Author.Needs.{needs}
 use Rattle.rules.specs.Table.{words}
 use Rattle.rules.proofs.Refusals.{Fitted, memory-passed}
 use Rattle.rules.proofs.Answers.{by-vector}
 use Rattle.lookup_answers.proofs.Lookups.{stopped}
-use Rattle.gateway.proofs.lookup.Statement.{statement}
-use Rattle.gateway.proofs.lookup.Tie as tie
+use Rattle.c_calls.proofs.Whole.{lent-list}
+use Rattle.c_calls.proofs.lookup.Statement.{statement}
+use Rattle.c_calls.proofs.lookup.Tie as tie
 
 returns : tie.Need-returns
 returns c = stopped _ _ _ _ (c .before .before .refuse-bytes .ensures) (c .before .if1 .taken) (c .answer-refused .ensures)
@@ -17,7 +17,7 @@ fit : (c : tie.Else1) → let a = c .before .before .before .before .before .arg
 fit c = memory-passed _ _ _ 0 (sym (c .before .refuse-bytes .ensures) ∙ c .if1 .left) .0
 
 vector-of-requires : tie.Need-vector-of-requires
-vector-of-requires c κs = (fit c .range, (c .before .before .before .before .before .pre, record { size = fit c .counters-fit }))
+vector-of-requires c κs = (fit c .range, (lent-list _ _ (c .before .before .before .before .before .pre) (fit c .range), record { size = fit c .counters-fit }))
 
 answer-in-bytes-requires : tie.Need-answer-in-bytes-requires
 answer-in-bytes-requires c κs = (fit (c .before) .range, record { size = fit (c .before) .slots-fit })
@@ -29,8 +29,8 @@ pub lookup-spec : {M : Type 1} → statement M
 lookup-spec =
     tie.close
     (tie.spec
-    (λ c κs. search needs)
-    (λ c κs. search needs)
+    (λ c κs. tt)
+    (λ c κs. tt)
     returns
     vector-of-requires
     answer-in-bytes-requires

@@ -3,12 +3,9 @@ use mathlib.Core.Path.{_∙_, sym}
 use borrow.Author.Tests.{ne-eqb}
 use Rattle.rules.specs.Table.{match-vector}
 use Rattle.rules.proofs.Refusals.{memory-passed}
-use borrow.Author.Needs.{needs}
-use Rattle.gateway.proofs.match_vector.Statement.{statement}
-use Rattle.gateway.proofs.match_vector.Tie as tie
-
-refuse-bytes-requires : tie.Need-refuse-bytes-requires
-refuse-bytes-requires c κs = search needs
+use Rattle.c_calls.proofs.Whole.{lent-list}
+use Rattle.c_calls.proofs.match_vector.Statement.{statement}
+use Rattle.c_calls.proofs.match_vector.Tie as tie
 
 returns : tie.Need-returns
 unfolding match-vector
@@ -17,7 +14,7 @@ returns c = simp (← (c .before .refuse-bytes .ensures), ne-eqb _ _ (c .if1 .ta
 vector-of-requires : tie.Need-vector-of-requires
 vector-of-requires c κs =
     let f = memory-passed _ _ _ 0 (sym (c .before .refuse-bytes .ensures) ∙ c .if1 .left) .0 in
-    (f .range, (c .before .before .before .before .before .pre, record { size = f .counters-fit }))
+    (f .range, (lent-list _ _ (c .before .before .before .before .before .pre) (f .range), record { size = f .counters-fit }))
 
 returns-2 : tie.Need-returns-2
 unfolding match-vector
@@ -25,4 +22,4 @@ returns-2 c = simp (← (c .before .before .refuse-bytes .ensures), c .before .i
 
 pub match-vector-spec : {M : Type 1} → statement M
 match-vector-spec =
-    tie.close (tie.spec refuse-bytes-requires returns vector-of-requires returns-2)
+    tie.close (tie.spec (λ c κs. tt) returns vector-of-requires returns-2)

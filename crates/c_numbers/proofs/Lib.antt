@@ -1,0 +1,2 @@
+-- That whatever a call gives back has room in its number.
+pub mod Fitting
