@@ -1,11 +1,13 @@
--- Calls of crates/table and crates/message_calls as they were made, at their own types, meet the premises: each is written down with its arguments and
--- what it gave back, and handed to the promises.
+-- Calls of crates/table and crates/message_calls as they were made, at their own types, meet the premises: each is written
+-- down with its arguments and what it gave back, and handed to the promises.
 use Prim.Native.Nat.{ℕ, zero, suc}
 use mathlib.Core.Path.{_≡_, refl}
-use mathlib.Core.List.{List, [], _∷_, _++_}
+use mathlib.Core.Bool.{true}
+use mathlib.Core.List.{List, [], _∷_, map, map-id}
 use native.Mathlib.Omega.{arith}
-use lib.Dec.{lit<}
-use lib.ListN.{replicate}
+use lib.Dec.{ltb, lit<}
+use lib.ListN.{length, replicate}
+use lib.Pow.{areBytes}
 use mir.Syntax.{w8, w32}
 use mir.Val.{Val, vint}
 use contract.Lifetimes.{Lfts}
@@ -16,8 +18,11 @@ use denote.Shadow.{shadow}
 use denote.Struct.Declared.{row}
 use denote.Struct.Field.{u8-field}
 use denote.Struct.Laws.{val}
-use Rattle.rules.specs.Table.{Memory, clear, add, lookup, answer-words, list-words, listed, fourfold, list-refusal, lookup-list}
-use Rattle.rules.specs.Calls.{Call, Clear, Add, Withdraw}
+use borrow.Author.Tests.{ltb-true}
+use Rattle.rules.specs.declared.Settings.{Settings}
+use Rattle.rules.specs.Table.{Memory, lent, clear, add, lookup, answer-words, list-words, listed, fourfold, list-refusal, lookup-list}
+use Rattle.rules.specs.Calls.{Clear, Add}
+use Rattle.rules.proofs.Members.{both}
 use Rattle.rules.proofs.Settings.{the-type}
 use Rattle.rules.proofs.Settings.Laws.{the-laws}
 use Rattle.rules.proofs.Worked.{ip, T}
@@ -28,27 +33,32 @@ use Rattle.promises.specs.Demands.{Finds, SaysNone, Words, answer-at, paper}
 use Rattle.promises.proofs.Agree.{sevens, showing}
 use Rattle.promises.proofs.Paper.{route}
 use Rattle.promises.proofs.Matches.{right}
+use Rattle.promises.proofs.Premises.{U}
 use Rattle.promises.proofs.Promises.{finds-longest, says-none}
 use Rattle.message_promises.specs.Heard.{heard-calls}
+use Rattle.message_promises.proofs.Premises.{message, hops, calls}
 use Rattle.caller_promises.proofs.Contracts.{Called, ClearCalled, AddCalled, Looked, LookupCalled, looked-given, looked-word, ListCalled, LookupListCalled, place-looked}
 use Rattle.caller_promises.proofs.Messages.{MessageCalled, ApplyMessageCalled}
 use Rattle.caller_promises.proofs.Callers.{Single, Addresses, Heard, served-history, served-stores}
 
--- settings T as a struct of six numbers of 32 bits and an array of 32 bytes
+-- T's settings with this list of D
+abbrev with-list : (d : List ℕ) → Settings
+with-list d = record { k = 2; d = d; e = 1; s = 2; a = 1; b = 2; c = 1 }
+
+-- they are a struct of six numbers of 32 bits and an array of 32 bytes
 abbrev word : ℕ → List Val
 word n = vint w32 n ∷ []
 
-abbrev fours : List Val
-fours = replicate 32 (vint w8 4)
+each-byte : (d : List ℕ) → areBytes d ≡ true → shadow (each ℕ (u8-field .row .own) d (map (vint w8) d))
+each-byte [] small = tt
+each-byte (D ∷ d) small =
+    let parts = both (ltb D 256) (areBytes d) small in
+    ((refl, ltb-true D 256 (parts .0)), each-byte d (parts .1))
 
-each-four : (n : ℕ) → shadow (each ℕ (u8-field .row .own) (replicate n 4) (replicate n (vint w8 4)))
-each-four zero = tt
-each-four (suc n) = ((refl, lit< tt), each-four n)
-
-pub settings-good : Is (row the-type) T (val the-type the-laws T ∷ [])
-settings-good = (
-  (word 2, (arrayVal fours ∷ [], (word 1, (word 2, (word 1, (word 2, (word 1, tt))))))),
-  (refl, ((refl, lit< tt), ((fours, ((refl, refl), each-four 32)), ((refl, lit< tt), ((refl, lit< tt), ((refl, lit< tt), ((refl, lit< tt), ((refl, lit< tt), tt)))))))),
+pub settings-good : (d : List ℕ) → areBytes d ≡ true → length d ≡ 32 → Is (row the-type) (with-list d) (val the-type the-laws (with-list d) ∷ [])
+settings-good d small long = rw (map-id d) (
+  (word 2, (arrayVal (map (vint w8) d) ∷ [], (word 1, (word 2, (word 1, (word 2, (word 1, tt))))))),
+  (refl, ((refl, lit< tt), ((map (vint w8) d, ((refl, long), each-byte d small)), ((refl, lit< tt), ((refl, lit< tt), ((refl, lit< tt), ((refl, lit< tt), ((refl, lit< tt), tt)))))))),
 )
 
 -- a list as it is lent
@@ -68,19 +78,19 @@ one = add T empty (ip 10 0 0 0) 8 7 .memory
 pub clear-called : Called T Clear sevens 0 empty
 unfolding showing
 clear-called = ClearCalled lifetimes (T, (lending (sevens .counters), (lending (sevens .slots), tt))) 0 (T, (lending (empty .counters), (lending (empty .slots), tt)))
-    (settings-good, ((lit< tt, lit< tt), ((lit< tt, lit< tt), tt))) refl
+    (settings-good (replicate 32 4) refl refl, ((lit< tt, lit< tt), ((lit< tt, lit< tt), tt))) refl
 
 add-called : Called T (Add (ip 10 0 0 0) 8 7) empty 0 one
 unfolding showing
 add-called = AddCalled lifetimes (T, (lending (empty .counters), (lending (empty .slots), (ip 10 0 0 0, (8, (7, tt)))))) 0 (T, (lending (one .counters), (lending (one .slots), (ip 10 0 0 0, (8, (7, tt))))))
-    (settings-good, ((lit< tt, lit< tt), ((lit< tt, lit< tt), ((refl, lit< tt), ((refl, lit< tt), ((refl, lit< tt), tt)))))) refl
+    (settings-good (replicate 32 4) refl refl, ((lit< tt, lit< tt), ((lit< tt, lit< tt), ((refl, lit< tt), ((refl, lit< tt), ((refl, lit< tt), tt)))))) refl
 
 -- ---- Lookups
 
 looked : Looked T one (ip 10 2 2 3) (lookup T one (ip 10 2 2 3))
 unfolding showing
 looked = LookupCalled lifetimes (T, (lending (one .counters), (lending (one .slots), (ip 10 2 2 3, tt)))) (lookup T one (ip 10 2 2 3)) (T, (lending (one .counters), (lending (one .slots), (ip 10 2 2 3, tt))))
-    (settings-good, ((lit< tt, lit< tt), ((lit< tt, lit< tt), ((refl, lit< tt), tt)))) refl
+    (settings-good (replicate 32 4) refl refl, ((lit< tt, lit< tt), ((lit< tt, lit< tt), ((refl, lit< tt), tt)))) refl
 
 -- 10.2.2.3 and 11.0.0.1, and eight words for their results
 abbrev addresses : List ℕ
@@ -102,7 +112,7 @@ unfolding showing answer-words list-words listed fourfold list-refusal lookup-li
 list-called = LookupListCalled ([], ([], ([], ([], tt))))
     (T, (lending (one .counters), (lending (one .slots), (lending addresses, (lending nines, tt))))) 0
     (T, (lending (one .counters), (lending (one .slots), (lending addresses, (lending two-answers, tt)))))
-    (settings-good, ((lit< tt, lit< tt), ((lit< tt, lit< tt), ((lit< tt, lit< tt), ((lit< tt, lit< tt), tt))))) addresses-sized refl
+    (settings-good (replicate 32 4) refl refl, ((lit< tt, lit< tt), ((lit< tt, lit< tt), ((lit< tt, lit< tt), ((lit< tt, lit< tt), tt))))) addresses-sized refl
 
 -- seven words are refused with 18, and stay as they were
 list-short : ListCalled T empty addresses (replicate 7 9) 18 (replicate 7 9)
@@ -110,7 +120,7 @@ unfolding showing answer-words list-words listed fourfold list-refusal lookup-li
 list-short = LookupListCalled ([], ([], ([], ([], tt))))
     (T, (lending (empty .counters), (lending (empty .slots), (lending addresses, (lending (replicate 7 9), tt))))) 18
     (T, (lending (empty .counters), (lending (empty .slots), (lending addresses, (lending (replicate 7 9), tt)))))
-    (settings-good, ((lit< tt, lit< tt), ((lit< tt, lit< tt), ((lit< tt, lit< tt), ((lit< tt, lit< tt), tt))))) addresses-sized refl
+    (settings-good (replicate 32 4) refl refl, ((lit< tt, lit< tt), ((lit< tt, lit< tt), ((lit< tt, lit< tt), ((lit< tt, lit< tt), tt))))) addresses-sized refl
 
 -- ---- A history
 
@@ -133,41 +143,42 @@ unfolding showing
 list-none = rw (looked-given (place-looked list-called refl 1 (lit< tt)))
     (says-none one-served (ip 11 0 0 1) (lit< tt) (right (ip 11 0 0 1) (stored (Add (ip 10 0 0 0) 8 7 ∷ []) (0 ∷ []))))
 
--- ---- A message
+-- ---- A message, under filters of unequal size
 
--- it withdraws 11/8, which is not stored, and announces 10/8 with the hop of 192.0.2.1
-abbrev message : List ℕ
-message = replicate 16 255 ++ (0 ∷ 34 ∷ 2 ∷ 0 ∷ 2 ∷ 8 ∷ 11 ∷ 0 ∷ 7 ∷ 64 ∷ 3 ∷ 4 ∷ 192 ∷ 0 ∷ 2 ∷ 1 ∷ 8 ∷ 10 ∷ [])
+-- lent memory of the sizes of U that held sevens, and what a clear leaves of it
+abbrev before-U : Memory
+before-U = lent (replicate 688 7) (replicate 257 7)
 
-abbrev hops : List ℕ
-hops = ip 198 51 100 1 ∷ ip 192 0 2 1 ∷ []
+abbrev empty-U : Memory
+empty-U = clear U before-U .memory
 
--- it is heard as two calls
-abbrev heard : List Call
-heard = Withdraw (ip 11 0 0 0) 8 ∷ Add (ip 10 0 0 0) 8 1 ∷ []
-
--- what it leaves
+-- what the message leaves, which withdraws 11/8, not stored, and announces 10/8 with the hop of 192.0.2.1
 abbrev told : Memory
-told = apply-message T empty message hops .memory
+told = apply-message U empty-U message hops .memory
 
-message-called : MessageCalled T empty message hops (record { refusal = 0; accepted = 1; refused = 1 }) told
+clear-called-U : Called U Clear before-U 0 empty-U
+unfolding showing
+clear-called-U = ClearCalled lifetimes (U, (lending (before-U .counters), (lending (before-U .slots), tt))) 0 (U, (lending (empty-U .counters), (lending (empty-U .slots), tt)))
+    (settings-good (U .d) refl refl, ((lit< tt, lit< tt), ((lit< tt, lit< tt), tt))) refl
+
+message-called : MessageCalled U empty-U message hops (record { refusal = 0; accepted = 1; refused = 1 }) told
 unfolding reading showing
 message-called = ApplyMessageCalled ([], ([], ([], ([], tt))))
-    (T, (lending (empty .counters), (lending (empty .slots), (lending message, (lending hops, tt))))) (record { refusal = 0; accepted = 1; refused = 1 })
-    (T, (lending (told .counters), (lending (told .slots), (lending message, (lending hops, tt)))))
-    (settings-good, ((lit< tt, lit< tt), ((lit< tt, lit< tt), ((lit< tt, lit< tt), ((lit< tt, lit< tt), tt))))) refl refl
+    (U, (lending (empty-U .counters), (lending (empty-U .slots), (lending message, (lending hops, tt))))) (record { refusal = 0; accepted = 1; refused = 1 })
+    (U, (lending (told .counters), (lending (told .slots), (lending message, (lending hops, tt)))))
+    (settings-good (U .d) refl refl, ((lit< tt, lit< tt), ((lit< tt, lit< tt), ((lit< tt, lit< tt), ((lit< tt, lit< tt), tt))))) refl refl
 
 -- the first call is refused, and the second accepted
-message-served : History T heard (7 ∷ 0 ∷ []) told
+message-served : History U calls (7 ∷ 0 ∷ []) told
 unfolding heard-calls reading showing
-message-served = served-history clear-called (Then (Heard message-called) Stop)
+message-served = served-history clear-called-U (Then (Heard message-called) Stop)
 
--- what it stores is what the two calls leave on paper
-message-stored : stored heard (7 ∷ 0 ∷ []) ≡ paper T [] heard .last
+-- what is stored is what the two calls leave on paper
+message-stored : stored calls (7 ∷ 0 ∷ []) ≡ paper U [] calls .last
 unfolding heard-calls reading showing
-message-stored = served-stores clear-called (Then (Heard message-called) Stop)
+message-stored = served-stores clear-called-U (Then (Heard message-called) Stop)
 
 -- 10.2.2.3 gets the hop of the list's second place
-message-found : Finds (lookup T told (ip 10 2 2 3)) (route (ip 10 0 0 0) 8 1)
+message-found : Finds (lookup U told (ip 10 2 2 3)) (route (ip 10 0 0 0) 8 1)
 unfolding showing
-message-found = finds-longest message-served (ip 10 2 2 3) (lit< tt) (route (ip 10 0 0 0) 8 1) (right (ip 10 2 2 3) (stored heard (7 ∷ 0 ∷ [])))
+message-found = finds-longest message-served (ip 10 2 2 3) (lit< tt) (route (ip 10 0 0 0) 8 1) (right (ip 10 2 2 3) (stored calls (7 ∷ 0 ∷ [])))

@@ -32,8 +32,8 @@ bad-prefixes (suc due) [] = true
 bad-prefixes zero (L ∷ bytes) = ltb 32 L || bad-prefixes ((L + 7) / 8) bytes
 bad-prefixes (suc due) (b ∷ bytes) = bad-prefixes due bytes
 
--- what is due of an attribute whose flags were read: its type and then a length, of two bytes where it is long; the first of
--- these two bytes; the last byte of its length; or so many bytes of its value, after which another attribute may stand
+-- what is due next among attributes: a type, after flags that say whether a long length follows it; the first byte of a long
+-- length; the last byte of a length; or so many bytes of a value, after which another attribute may begin
 pub data Due : Type 0 where
   Kind : (long : Bool) → Due
   High : (kind : ℕ) → Due
