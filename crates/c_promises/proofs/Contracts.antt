@@ -5,7 +5,7 @@
 use Prim.Native.Nat.{ℕ}
 use mathlib.Core.Path.{_≡_, refl}
 use mathlib.Core.Bool.{true}
-use mathlib.Core.List.{List, [], _∷_}
+use mathlib.Core.List.{List}
 use lib.Pow.{areBytes}
 use mir.Syntax.{w8}
 use base.Logic.{ent}
@@ -19,12 +19,12 @@ use denote.Triple.Entry.{onEntry}
 use borrow.Fn.World.{World, ArgsD, ResD}
 use borrow.Fn.Kinds.{GoodsP}
 use borrow.Author.Tests.{lt-ltb}
-use borrow.Rule.Slice.Know.{AllWT}
 use borrow.Table.Referent.{fInt}
 use Rattle.rules.specs.Table.{lent, bytes-of}
 use Rattle.rules.specs.Calls.{Clear, Add, Withdraw, Change, word-sized, act}
 use Rattle.caller_promises.proofs.Contracts.{owned}
 use Rattle.caller_promises.proofs.Elements.{elements-owned}
+use Rattle.caller_promises.proofs.Messages.{all-bytes}
 use Rattle.c_promises.specs.Calls.{Updated, LookedUp, Matched, ListedUp, Sent, Wrote}
 use Rattle.gateway.proofs.Arguments.{settings, past}
 use Rattle.gateway.proofs.gateway_clear
@@ -121,10 +121,6 @@ module _ (w : World) (κs : Lfts 3) (qs : Shares 3) where
   pub match-vector-owned : (a : ArgsD gateway_match_vector.signature κs) (vss : Valss (typesAt (gateway_match_vector.signature .params) κs))
       → ent (w .𝓤) (onEntry (w .𝓤) (w .H) (w .𝓖 .A) gateway_match_vector.signature κs qs a vss) (fact (w .𝓤) (GoodsP κs match-vector-kinds.ps a))
   match-vector-owned = owned w match-vector-kinds.ps match-vector-kinds.r κs qs
-
-pub all-bytes : (bytes : List ℕ) → AllWT (fInt w8) bytes → areBytes bytes ≡ true
-all-bytes [] fit = refl
-all-bytes (byte ∷ bytes) fit = rw (lt-ltb byte 256 (fit .0 .fits)) (all-bytes bytes (fit .1))
 
 -- Of a list they tell besides, once it is looked at (⇛), that each byte of the addresses is below 256; so of a message.
 module _ (w : World) (κs : Lfts 5) (qs : Shares 5) where

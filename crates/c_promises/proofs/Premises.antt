@@ -23,8 +23,9 @@ use Rattle.promises.proofs.Premises.{U}
 use Rattle.promises.proofs.Histories.{made}
 use Rattle.promises.proofs.Promises.{finds-longest, says-none}
 use Rattle.message_promises.specs.Heard.{heard-calls}
+use Rattle.message_promises.proofs.Premises.{message, hops, calls, its-calls}
 use Rattle.c_promises.specs.Numbers.{gateway-refusal, word-at, list-address, read-answer, read-report, read-result}
-use Rattle.c_promises.specs.Calls.{Updated, LookedUp, ListedUp, Sent, Did, DidUpdate, DidList, DidMessage}
+use Rattle.c_promises.specs.Calls.{Updated, LookedUp, ListedUp, Sent, Did, Single, Addresses, Heard}
 use Rattle.c_promises.proofs.Unpacking.{answer-read, message-read}
 use Rattle.c_promises.proofs.Lists.{list-accepted, result-read}
 use Rattle.c_promises.proofs.Seat.{c-history}
@@ -44,9 +45,9 @@ unfolding run each all-word-sized
 did-all t m [] words = Stop
 did-all t m (call ∷ calls) words =
     let parts = both (word-sized call) (all-word-sized calls) words in
-    Then (rw refusal-back at (DidUpdate (updated t call m (parts .0)))) (did-all t (act t call m .memory) calls (parts .1))
+    Then (rw refusal-back at (Single (updated t call m (parts .0)))) (did-all t (act t call m .memory) calls (parts .1))
 
--- ---- A day of updates, one of them refused
+-- ---- A day of updates, one of them refused, a list of addresses, and a message
 
 day : List Call
 day = Add (ip 10 0 0 0) 8 7 ∷ Add (ip 10 0 0 0) 8 9 ∷ Withdraw (ip 11 0 0 0) 8 ∷ []
@@ -58,30 +59,20 @@ day-answers = 0 ∷ 0 ∷ 7 ∷ []
 addresses : List ℕ
 addresses = bytes-of (ip 10 2 2 3 ∷ ip 11 0 0 1 ∷ [])
 
--- a message that withdraws 11/8, which is not stored, and announces 10/8 with the hop of 192.0.2.1
-message : List ℕ
-message = replicate 16 255 ++ (0 ∷ 34 ∷ 2 ∷ 0 ∷ 2 ∷ 8 ∷ 11 ∷ 0 ∷ 7 ∷ 64 ∷ 3 ∷ 4 ∷ 192 ∷ 0 ∷ 2 ∷ 1 ∷ 8 ∷ 10 ∷ [])
-
-hops : List ℕ
-hops = ip 198 51 100 1 ∷ ip 192 0 2 1 ∷ []
-
-its-calls : List Call
-its-calls = Withdraw (ip 11 0 0 0) 8 ∷ Add (ip 10 0 0 0) 8 1 ∷ []
-
 -- what is computed under settings t, on memory that held anything
 record Worked (t : Settings) (before : Memory) : Type 0 where
   cleared : act t Clear before .refusal ≡ 0
   given : run t (act t Clear before .memory) day .answers ≡ day-answers
   probed : probes-down-to t (stored day day-answers) (ip 10 2 2 3) 8 ≡ 1
   reported : apply-message t (act t Clear before .memory) message hops .report ≡ record { refusal = 0; accepted = 1; refused = 1 }
-  calls-given : run t (act t Clear before .memory) its-calls .answers ≡ 7 ∷ 0 ∷ []
+  calls-given : run t (act t Clear before .memory) calls .answers ≡ 7 ∷ 0 ∷ []
 
 at-T : Worked T sevens
-unfolding day day-answers message hops its-calls reading showing
+unfolding day day-answers reading showing
 at-T = record { cleared = refl; given = refl; probed = refl; reported = refl; calls-given = refl }
 
 at-U : Worked U (record { counters = replicate 688 7; slots = replicate 257 7 })
-unfolding day day-answers message hops its-calls reading showing
+unfolding day day-answers reading showing
 at-U = record { cleared = refl; given = refl; probed = refl; reported = refl; calls-given = refl }
 
 module _ {t : Settings} {before : Memory} (worked : Worked t before) where
@@ -96,9 +87,9 @@ module _ {t : Settings} {before : Memory} (worked : Worked t before) where
   unfolding addresses bytes-of
   list-asked m = record { bytes = refl; crossed = record { number = refl; results = refl } }
 
-  lived : (calls : List Call) → all-word-sized calls ≡ true → History t calls (run t empty calls .answers) (run t empty calls .last)
+  lived : (made-calls : List Call) → all-word-sized made-calls ≡ true → History t made-calls (run t empty made-calls .answers) (run t empty made-calls .last)
   unfolding word-sized
-  lived calls words = c-history (updated t Clear before refl) (refusal-back _ ∙ worked .cleared) (Then (DidList (list-asked empty)) (did-all t empty calls words))
+  lived made-calls words = c-history (updated t Clear before refl) (refusal-back _ ∙ worked .cleared) (Then (Addresses (list-asked empty)) (did-all t empty made-calls words))
 
   abbrev last : Memory
   last = run t empty day .last
@@ -137,25 +128,24 @@ module _ {t : Settings} {before : Memory} (worked : Worked t before) where
   -- ---- A message
 
   sent : (m : Memory) → Sent t m message hops (report-number (apply-message t m message hops .report)) (apply-message t m message hops .memory)
-  unfolding message
   sent m = record { bytes = refl; crossed = record { number = refl; memory = refl } }
 
   -- one route is read as accepted and one as refused
   counts-met : read-report (report-number (apply-message t empty message hops .report)) ≡ record { refusal = 0; accepted = 1; refused = 1 }
   counts-met = sym (ap (λ r. r .report) (message-read (sent empty))) ∙ worked .reported
 
-  heard : heard-calls message hops (gateway-refusal (report-number (apply-message t empty message hops .report))) ≡ its-calls
-  unfolding message hops its-calls heard-calls reading
-  heard = rw (ap (λ r. r .refusal) counts-met)
+  heard : heard-calls message hops (gateway-refusal (report-number (apply-message t empty message hops .report))) ≡ calls
+  unfolding heard-calls
+  heard = rw (ap (λ r. r .refusal) counts-met) its-calls
 
-  message-lived : History t its-calls (7 ∷ 0 ∷ []) (apply-message t empty message hops .memory)
-  unfolding word-sized its-calls
-  message-lived = rw (heard, worked .calls-given) at (c-history (updated t Clear before refl) (refusal-back _ ∙ worked .cleared) (Then (DidMessage (sent empty)) Stop))
+  message-lived : History t calls (7 ∷ 0 ∷ []) (apply-message t empty message hops .memory)
+  unfolding word-sized
+  message-lived = rw (heard, worked .calls-given) at (c-history (updated t Clear before refl) (refusal-back _ ∙ worked .cleared) (Then (Heard (sent empty)) Stop))
 
   -- 10.2.2.3 gets the hop of the list's second place
   message-found-met : Finds (lookup t (apply-message t empty message hops .memory) (ip 10 2 2 3)) (route (ip 10 0 0 0) 8 1)
-  unfolding its-calls showing
-  message-found-met = finds-longest message-lived (ip 10 2 2 3) (lit< tt) (route (ip 10 0 0 0) 8 1) (right (ip 10 2 2 3) (stored its-calls (7 ∷ 0 ∷ [])))
+  unfolding showing
+  message-found-met = finds-longest message-lived (ip 10 2 2 3) (lit< tt) (route (ip 10 0 0 0) 8 1) (right (ip 10 2 2 3) (stored calls (7 ∷ 0 ∷ [])))
 
   -- ---- A table newly cleared
 

@@ -1,6 +1,7 @@
 -- What is said of the 64-bit numbers themselves, after a history: the number of a lookup as a whole, and demand 3's last
--- sentence as equal numbers. All else that is promised to a C program is a promise of crates/promises, of the answer that it
--- reads (proofs/Unpacking.antt).
+-- sentence as equal numbers. All else that is promised to a C program is a promise of crates/promises or
+-- crates/message_promises, of the answer that it reads: rw (answer-read asked) (finds-longest history ..) is demand 2 of
+-- gateway_lookup (proofs/Unpacking.antt, proofs/Lists.antt).
 use Prim.Native.Nat.{ℕ, _+_, _*_, _^_}
 use mathlib.Core.Path.{_≡_, sym, ap, _∙_}
 use mathlib.Core.List.{List, [], _∷_, append-cancel-left}
@@ -44,20 +45,21 @@ module _ {t : Settings} {calls : List Call} {answers : List ℕ} {m : Memory} (h
 
 -- ---- Demand 3, of a table newly cleared under these settings, to which the stored routes are added, in any order
 
--- Whatever calls are then made to both, it gives a C program the same numbers: more may be none at all.
+-- Whatever single calls are then made to both, none at all among others, the two give a C program the same 64-bit number. What
+-- it did to both is such calls by c-made (proofs/Seat.antt).
 module _ {t : Settings} {calls : List Call} {answers : List ℕ} {m : Memory} (history : History t calls answers m)
     {order : List Route} (same : Reordered (stored calls answers) order) {new-answers : List ℕ} {new-m : Memory} (anew : History t (adds order) new-answers new-m)
     {more : List Call} {more-answers more-new-answers : List ℕ} {last new-last : Memory}
     (made : SingleCalls t m more more-answers last) (made-anew : SingleCalls t new-m more more-new-answers new-last) where
-  -- of a lookup,
+  -- They give it for a lookup,
   pub same-lookup-numbers : {address answer new-answer : ℕ} → LookedUp t last address answer → LookedUp t new-last address new-answer → new-answer ≡ answer
   same-lookup-numbers {address} asked new-asked = equal-lookups asked new-asked (same-lookups-after history same anew made made-anew address (asked .word))
 
-  -- of a match vector,
+  -- for a match vector,
   pub same-vector-numbers : {address answer new-answer : ℕ} → Matched t last address answer → Matched t new-last address new-answer → new-answer ≡ answer
   same-vector-numbers {address} asked new-asked = equal-vectors asked new-asked (same-vectors-after history same anew made made-anew address (asked .word))
 
-  -- of an update,
+  -- for an update,
   pub same-update-numbers : {call : Call} {m' new-m' : Memory} {answer new-answer : ℕ} → Updated t call last answer m' → Updated t call new-last new-answer new-m'
       → new-answer ≡ answer
   same-update-numbers {answer = answer} {new-answer} updated new-updated =
@@ -66,18 +68,18 @@ module _ {t : Settings} {calls : List Call} {answers : List ℕ} {m : Memory} (h
       let refusals : gateway-refusal new-answer ∷ [] ≡ gateway-refusal answer ∷ [] = append-cancel-left more-new-answers _ _ (both ∙ rw (same-numbers history same anew made made-anew)) in
       update-zero-elsewhere new-updated ∙ ap (λ numbers. getD numbers 0 0 * 2 ^ 48) refusals ∙ sym (update-zero-elsewhere updated)
 
-  -- of a message,
+  -- for a message,
   pub same-message-numbers : {message hops : List ℕ} {m' new-m' : Memory} {answer new-answer : ℕ} → Sent t last message hops answer m' → Sent t new-last message hops new-answer new-m'
       → new-answer ≡ answer
   same-message-numbers {message} {hops} sent new-sent = equal-messages sent new-sent (same-reports history same anew made made-anew message hops (sent .bytes))
 
-  -- and of a list of addresses, over as many bytes of results,
+  -- and for a list of addresses, over as many bytes of results.
   module _ {addresses results results' new-results new-results' : List ℕ} {answer new-answer : ℕ}
       (asked : ListedUp t last addresses results answer results') (new-asked : ListedUp t new-last addresses new-results new-answer new-results')
       (size : length new-results ≡ length results) where
     pub same-list-numbers : new-answer ≡ answer
     same-list-numbers = equal-list-numbers (same-lookups-after history same anew made made-anew) asked new-asked size
 
-    -- which, where it is accepted, are then the same byte for byte.
+    -- Where it is accepted, its results are the same byte for byte.
     pub same-list-bytes : gateway-refusal answer ≡ 0 → new-results' ≡ results'
     same-list-bytes = equal-lists (same-lookups-after history same anew made made-anew) asked new-asked size

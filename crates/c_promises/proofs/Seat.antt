@@ -11,15 +11,15 @@ use Rattle.promises.specs.History.{SingleCalls, History, Ran}
 use Rattle.promises.proofs.Histories.{made, one-made, seat-made, seat-history}
 use Rattle.message_promises.proofs.Routes.{message-single}
 use Rattle.c_promises.specs.Numbers.{gateway-refusal}
-use Rattle.c_promises.specs.Calls.{Updated, Did, DidUpdate, DidList, DidMessage}
+use Rattle.c_promises.specs.Calls.{Updated, Did, Single, Addresses, Heard}
 use Rattle.c_promises.proofs.Unpacking.{update-read, message-read}
 
 -- Each thing that a C program does is single calls,
 pub did-single : {t : Settings} (m : Memory) (calls : List Call) (answers : List ℕ) (m' : Memory) → Did t m calls answers m' → SingleCalls t m calls answers m'
 unfolding all-word-sized run each
-did-single m calls answers m' (DidUpdate updated) = one-made (updated .word) (update-read updated)
-did-single {t} m calls answers m' (DidList asked) = made t m [] refl
-did-single {t} m calls answers m' (DidMessage {message = message} {hops} sent) = rw (message-read sent) at (message-single t m message hops (sent .bytes))
+did-single m calls answers m' (Single updated) = one-made (updated .word) (update-read updated)
+did-single {t} m calls answers m' (Addresses asked) = made t m [] refl
+did-single {t} m calls answers m' (Heard {message = message} {hops} sent) = rw (message-read sent) at (message-single t m message hops (sent .bytes))
 
 -- and so are several, one after the other.
 pub c-made : {t : Settings} {m m' : Memory} {calls : List Call} {answers : List ℕ} → Ran (Did t) m calls answers m' → SingleCalls t m calls answers m'

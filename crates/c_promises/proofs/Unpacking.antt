@@ -72,10 +72,11 @@ module _ {t : Settings} {call : Call} {m m' : Memory} {answer : ℕ} (made : Upd
 -- ---- Lists of addresses and written withdrawals
 
 module _ {l : Listed} {answer : ℕ} {bytes : List ℕ} (crossed : ListCrossed l answer bytes) where
-  -- So it is with a list of addresses and a written withdrawal, and the bytes that they leave.
+  -- Both give back their refusal, and leave the bytes that the rules leave.
   pub list-read : l ≡ answered (gateway-refusal answer) bytes
   list-read = ap₂ answered (sym (refusal-read answer _ (crossed .number))) (sym (crossed .results))
 
+  -- Every other bit of the number is zero.
   pub list-zero-elsewhere : answer ≡ gateway-refusal answer * 2 ^ 48
   list-zero-elsewhere = refusal-alone answer _ (crossed .number)
 
@@ -104,7 +105,7 @@ answer-parts : (r : Answer) → Fits r → Parts (answer-number r) r
 unfolding gateway-refusal gateway-found gateway-hop gateway-length gateway-probes answer-number
 answer-parts r fits = omega (arith, one-if-small (r .found))
 
--- Over any bytes: those that are not whole words too.
+-- Over any bytes, also those that are not a whole number of words.
 module _ (t : Settings) (counters bytes : List ℕ) (address answer : ℕ) (given : answer ≡ c-lookup t counters bytes address) where
   abbrev looked : Answer
   looked = lookup t (lent counters (words bytes)) address
@@ -138,16 +139,18 @@ module _ (t : Settings) (counters bytes : List ℕ) (address answer : ℕ) (give
   lookup-refused bad =
       given ∙ rw (parts .refusal, demand-1.lookup-refused t (lent counters (words bytes)) address (λ good. bad (parts .refusal ∙ good))) (omega arith)
 
--- Over the memory of an update:
+-- Over the memory of an update.
 module _ {t : Settings} {m : Memory} {address answer : ℕ} (asked : LookedUp t m address answer) where
-  -- the whole number, and what is read of it.
+  -- The whole number,
   pub looked-up : answer ≡ answer-number (lookup t m address)
   unfolding c-lookup
   looked-up = rw (words-again (m .slots)) at (asked .crossed)
 
+  -- what is read of it,
   pub answer-read : read-answer answer ≡ lookup t m address
   answer-read = rw (words-again (m .slots)) at (lookup-read t (m .counters) (bytes-of (m .slots)) address answer (asked .crossed))
 
+  -- and found, which is 1 or 0.
   pub found-read : gateway-found answer ≡ one-if (lookup t m address .found)
   found-read = rw (words-again (m .slots)) at (lookup-found t (m .counters) (bytes-of (m .slots)) address answer (asked .crossed))
 
@@ -191,13 +194,16 @@ module _ (t : Settings) (counters bytes : List ℕ) (address answer : ℕ) (give
       omega (arith, vector-zero-elsewhere, vector-part)
 
 module _ {t : Settings} {m : Memory} {address answer : ℕ} (asked : Matched t m address answer) where
+  -- The whole number, over the memory of an update,
   pub matched : answer ≡ vector-number (match-vector t m address)
   unfolding c-match-vector
   matched = rw (words-again (m .slots)) at (asked .crossed)
 
+  -- and what is read of it.
   pub claims-read : read-vector answer ≡ match-vector t m address
   claims-read = rw (words-again (m .slots)) at (vector-read t (m .counters) (bytes-of (m .slots)) address answer (asked .crossed))
 
+-- Two tables that give an address the same vector give the same number.
 pub equal-vectors : {t : Settings} {m other : Memory} {address answer new-answer : ℕ} → Matched t m address answer → Matched t other address new-answer
     → match-vector t other address ≡ match-vector t m address → new-answer ≡ answer
 equal-vectors asked new-asked same = matched new-asked ∙ ap vector-number same ∙ sym (matched asked)

@@ -62,7 +62,7 @@ list-conditions t counters slots addresses results =
 -- the header reads; a list of addresses, which is none and changes nothing; or a message, which is its single calls, or none
 -- where it was refused.
 pub data Did (t : Settings) : Memory → List Call → List ℕ → Memory → Type 0 where
-  DidUpdate : {call : Call} {m m' : Memory} {answer : ℕ} → Updated t call m answer m' → Did t m (call ∷ []) (gateway-refusal answer ∷ []) m'
-  DidList : {m : Memory} {addresses results results' : List ℕ} {answer : ℕ} → ListedUp t m addresses results answer results' → Did t m [] [] m
-  DidMessage : {m m' : Memory} {message hops : List ℕ} {answer : ℕ} → Sent t m message hops answer m'
+  Single : {call : Call} {m m' : Memory} {answer : ℕ} → Updated t call m answer m' → Did t m (call ∷ []) (gateway-refusal answer ∷ []) m'
+  Addresses : {m : Memory} {addresses results results' : List ℕ} {answer : ℕ} → ListedUp t m addresses results answer results' → Did t m [] [] m
+  Heard : {m m' : Memory} {message hops : List ℕ} {answer : ℕ} → Sent t m message hops answer m'
       → Did t m (heard-calls message hops (gateway-refusal answer)) (run t m (heard-calls message hops (gateway-refusal answer)) .answers) m'
