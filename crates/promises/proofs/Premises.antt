@@ -65,7 +65,7 @@ unfolding day day-answers morning pair showing
 at-T = record { cleared = refl; day-given = refl; morning-given = refl; pair-given = refl; same-bucket = refl }
 
 -- T with other filters: D is 5 at length 8, 6 at 16, 7 at 32, and 4 at the rest
-abbrev U : Settings
+abbrev pub U : Settings
 U = record { k = 2; d = replicate 7 4 ++ (5 ∷ replicate 7 4) ++ (6 ∷ replicate 15 4) ++ 7 ∷ []; e = 1; s = 2; a = 1; b = 2; c = 1 }
 
 at-U : Worked U (record { counters = replicate 688 7; slots = replicate 257 7 })

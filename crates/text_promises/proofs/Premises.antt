@@ -3,7 +3,7 @@
 use Prim.Native.Nat.{ℕ}
 use mathlib.Core.Path.{_≡_, refl, ap}
 use mathlib.Core.Bool.{false}
-use mathlib.Core.List.{List, [], _∷_, _++_}
+use mathlib.Core.List.{List, [], _∷_}
 use native.Mathlib.Omega.{arith}
 use lib.Dec.{lit≤}
 use lib.ListN.{replicate}
@@ -21,6 +21,7 @@ use Rattle.promises.proofs.Agree.{sevens}
 use Rattle.promises.proofs.Paper.{route}
 use Rattle.promises.proofs.Matches.{right}
 use Rattle.promises.proofs.Histories.{one-made}
+use Rattle.promises.proofs.Premises.{U}
 use Rattle.text_promises.specs.Paper.{paper-answers}
 use Rattle.text_promises.specs.Typed.{number-told, numbers-told, Typed, Line}
 use Rattle.text_promises.specs.Streams.{Streamed, Chunk, Ended}
@@ -71,9 +72,8 @@ at-T : Worked T sevens
 unfolding all-computing
 at-T = record { cleared = refl; accepted = refl }
 
--- T with other filters: D is 5 at length 8, 6 at 16, and 4 at the rest
-at-U : Worked (record { k = 2; d = replicate 7 4 ++ (5 ∷ replicate 7 4) ++ 6 ∷ replicate 16 4; e = 1; s = 2; a = 1; b = 2; c = 1 })
-    (record { counters = replicate 576 7; slots = replicate 257 7 })
+-- filters of unequal size
+at-U : Worked U (record { counters = replicate 688 7; slots = replicate 257 7 })
 unfolding all-computing
 at-U = record { cleared = refl; accepted = refl }
 
