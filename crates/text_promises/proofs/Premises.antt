@@ -30,38 +30,29 @@ use Rattle.text_promises.proofs.Promises.{lines-are-history, numbers-wr
 
 -- ---- Typed lines
 
--- three routes are added
+-- two routes are added
 abbrev eight : List ℕ
 eight = spelled "add 10.0.0.0/8 7"
-
-abbrev sixteen : List ℕ
-sixteen = spelled "add 10.1.0.0/16 9"
 
 abbrev default : List ℕ
 default = spelled "add 0.0.0.0/0 3"
 
 -- the calls that the lines ask for
 abbrev morning : List Call
-morning = Add (ip 10 0 0 0) 8 7 ∷ Add (ip 10 1 0 0) 16 9 ∷ Add 0 0 3 ∷ []
-
--- the memory after one line more
-abbrev after : Settings → Memory → List ℕ → Memory
-after t m line = line-reply t m line .memory
+morning = Add (ip 10 0 0 0) 8 7 ∷ Add 0 0 3 ∷ []
 
 -- the numbers that the lines are told
 abbrev given : Settings → Memory → List ℕ
-given t m =
-    let to : Memory → List ℕ → ℕ = λ m line. number-told (line-reply t m line .text) in
-    to m eight ∷ to (after t m eight) sixteen ∷ to (after t (after t m eight) sixteen) default ∷ []
+given t m = number-told (line-reply t m eight .text) ∷ number-told (line-reply t (line-reply t m eight .memory) default .text) ∷ []
 
 -- the routes that are stored then
 abbrev then : List Route
-then = stored morning (0 ∷ 0 ∷ 0 ∷ [])
+then = stored morning (0 ∷ 0 ∷ [])
 
 -- what is computed under settings t, on memory that held anything
 record Worked (t : Settings) (before : Memory) : Type 0 where
   cleared : act t Clear before .refusal ≡ 0
-  accepted : given t (act t Clear before .memory) ≡ 0 ∷ 0 ∷ 0 ∷ []
+  accepted : given t (act t Clear before .memory) ≡ 0 ∷ 0 ∷ []
 
 -- to unfold this is to unfold what the program computes with too
 unfoldable all-computing : ℕ
@@ -83,7 +74,7 @@ module _ {t : Settings} {before : Memory} (worked : Worked t before) where
   empty = act t Clear before .memory
 
   abbrev m : Memory
-  m = after t (after t (after t empty eight) sixteen) default
+  m = line-reply t (line-reply t empty eight .memory) default .memory
 
   begun : SingleCalls t before (Clear ∷ []) (0 ∷ []) empty
   unfolding word-sized
@@ -91,9 +82,9 @@ module _ {t : Settings} {before : Memory} (worked : Worked t before) where
 
   typed : Ran (Typed t) empty morning (given t empty) m
   unfolding paper-computing numbers-told
-  typed = Then (Line eight) (Then (Line sixteen) (Then (Line default) Stop))
+  typed = Then (Line eight) (Then (Line default) Stop)
 
-  lived : History t morning (0 ∷ 0 ∷ 0 ∷ []) m
+  lived : History t morning (0 ∷ 0 ∷ []) m
   lived = rw (worked .accepted) at (lines-are-history begun typed)
 
   longest-met : line-reply t m (spelled "find 10.2.2.3") .text ≡ route-text 7 8 (probes-down-to t then (ip 10 2 2 3) 8)
