@@ -3,7 +3,7 @@
 use Prim.Native.Nat.{ℕ}
 use mathlib.Core.Path.{_≡_, refl, ap}
 use mathlib.Core.Bool.{false}
-use mathlib.Core.List.{List, [], _∷_, _++_}
+use mathlib.Core.List.{List, [], _∷_}
 use native.Mathlib.Omega.{arith}
 use lib.Dec.{lit≤}
 use lib.ListN.{replicate}
@@ -21,6 +21,7 @@ use Rattle.promises.proofs.Agree.{sevens}
 use Rattle.promises.proofs.Paper.{route}
 use Rattle.promises.proofs.Matches.{right}
 use Rattle.promises.proofs.Histories.{one-made}
+use Rattle.promises.proofs.Premises.{U}
 use Rattle.text_promises.specs.Paper.{paper-answers}
 use Rattle.text_promises.specs.Typed.{number-told, numbers-told, Typed, Line}
 use Rattle.text_promises.specs.Streams.{Streamed, Chunk, Ended}
@@ -29,38 +30,29 @@ use Rattle.text_promises.proofs.Promises.{lines-are-history, numbers-wr
 
 -- ---- Typed lines
 
--- three routes are added
+-- two routes are added
 abbrev eight : List ℕ
 eight = spelled "add 10.0.0.0/8 7"
-
-abbrev sixteen : List ℕ
-sixteen = spelled "add 10.1.0.0/16 9"
 
 abbrev default : List ℕ
 default = spelled "add 0.0.0.0/0 3"
 
 -- the calls that the lines ask for
 abbrev morning : List Call
-morning = Add (ip 10 0 0 0) 8 7 ∷ Add (ip 10 1 0 0) 16 9 ∷ Add 0 0 3 ∷ []
-
--- the memory after one line more
-abbrev after : Settings → Memory → List ℕ → Memory
-after t m line = line-reply t m line .memory
+morning = Add (ip 10 0 0 0) 8 7 ∷ Add 0 0 3 ∷ []
 
 -- the numbers that the lines are told
 abbrev given : Settings → Memory → List ℕ
-given t m =
-    let to : Memory → List ℕ → ℕ = λ m line. number-told (line-reply t m line .text) in
-    to m eight ∷ to (after t m eight) sixteen ∷ to (after t (after t m eight) sixteen) default ∷ []
+given t m = number-told (line-reply t m eight .text) ∷ number-told (line-reply t (line-reply t m eight .memory) default .text) ∷ []
 
 -- the routes that are stored then
 abbrev then : List Route
-then = stored morning (0 ∷ 0 ∷ 0 ∷ [])
+then = stored morning (0 ∷ 0 ∷ [])
 
 -- what is computed under settings t, on memory that held anything
 record Worked (t : Settings) (before : Memory) : Type 0 where
   cleared : act t Clear before .refusal ≡ 0
-  accepted : given t (act t Clear before .memory) ≡ 0 ∷ 0 ∷ 0 ∷ []
+  accepted : given t (act t Clear before .memory) ≡ 0 ∷ 0 ∷ []
 
 -- to unfold this is to unfold what the program computes with too
 unfoldable all-computing : ℕ
@@ -71,9 +63,8 @@ at-T : Worked T sevens
 unfolding all-computing
 at-T = record { cleared = refl; accepted = refl }
 
--- T with other filters: D is 5 at length 8, 6 at 16, and 4 at the rest
-at-U : Worked (record { k = 2; d = replicate 7 4 ++ (5 ∷ replicate 7 4) ++ 6 ∷ replicate 16 4; e = 1; s = 2; a = 1; b = 2; c = 1 })
-    (record { counters = replicate 576 7; slots = replicate 257 7 })
+-- filters of unequal size
+at-U : Worked U (record { counters = replicate 688 7; slots = replicate 257 7 })
 unfolding all-computing
 at-U = record { cleared = refl; accepted = refl }
 
@@ -83,7 +74,7 @@ module _ {t : Settings} {before : Memory} (worked : Worked t before) where
   empty = act t Clear before .memory
 
   abbrev m : Memory
-  m = after t (after t (after t empty eight) sixteen) default
+  m = line-reply t (line-reply t empty eight .memory) default .memory
 
   begun : SingleCalls t before (Clear ∷ []) (0 ∷ []) empty
   unfolding word-sized
@@ -91,9 +82,9 @@ module _ {t : Settings} {before : Memory} (worked : Worked t before) where
 
   typed : Ran (Typed t) empty morning (given t empty) m
   unfolding paper-computing numbers-told
-  typed = Then (Line eight) (Then (Line sixteen) (Then (Line default) Stop))
+  typed = Then (Line eight) (Then (Line default) Stop)
 
-  lived : History t morning (0 ∷ 0 ∷ 0 ∷ []) m
+  lived : History t morning (0 ∷ 0 ∷ []) m
   lived = rw (worked .accepted) at (lines-are-history begun typed)
 
   longest-met : line-reply t m (spelled "find 10.2.2.3") .text ≡ route-text 7 8 (probes-down-to t then (ip 10 2 2 3) 8)

@@ -12,7 +12,8 @@ use lib.Dec.{lit≤}
 use Rattle.rules.specs.declared.Settings.{Settings}
 use Rattle.rules.specs.declared.Answer.{Answer}
 use Rattle.rules.specs.Table.{Memory, lent, lookup}
-use Rattle.rules.specs.Calls.{Call, Clear, Add as Call·Add, all-word-sized, act, each, run}
+use Rattle.rules.specs.Calls.{Call, Clear, Add as Call·Add, Withdraw, Change, word-sized, all-word-sized, act, each, run}
+use Rattle.rules.proofs.Members.{both}
 use Rattle.rules.proofs.Worked.{T, computing}
 use Rattle.text_spelling.specs.Spelling.{spelled}
 use Rattle.text_requests.specs.declared.Request.{Request}
@@ -27,8 +28,8 @@ use Rattle.promises.specs.Demands.{Stored, matches, Longest, NoMatch, Finds, nu
 use Rattle.promises.proofs.Matches.{Right, right}
 use Rattle.promises.proofs.Answers.{default-longest}
 use Rattle.promises.proofs.Histories.{kept, seat-history, more-routes-on-paper}
-use Rattle.promises.proofs.Promises.{finds-longest, says-none, stored-accepted, replaced-found, probes-counted, replaced-lookups}
-use Rattle.text_promises.specs.Paper.{calls-of, text-by, paper-answers}
+use Rattle.promises.proofs.Promises.{finds-longest, says-none, numbers-given, stored-accepted, replaced-found, probes-counted, replaced-lookups}
+use Rattle.text_promises.specs.Paper.{calls-of, paper-answers}
 use Rattle.text_promises.specs.Typed.{number-told, numbers-told, Typed, Line}
 use Rattle.text_promises.specs.Streams.{Streamed}
 use Rattle.text_promises.proofs.Texts.{route-not-none, only-unreadable, route-tells, none-tells, number-tells}
@@ -42,6 +43,33 @@ lines-are-history {t} = seat-history single
   where
     single : (m : Memory) (calls : List Call) (answers : List ℕ) (m′ : Memory) → Typed t m calls answers m′ → SingleCalls t m calls answers m′
     single m calls answers m′ (Line line) = line-made t m line
+
+-- ---- What is written, on any memory
+
+module _ (t : Settings) (m : Memory) (line : List ℕ) where
+  -- An update is answered by the number that its call is given.
+  pub update-written : (call : Call) → calls-of (request line) ≡ call ∷ [] → let u = act t call m in
+      line-reply t m line ≡ record { text = update-text (u .refusal); memory = u .memory }
+  unfolding line-reply reply updated calls-of act
+  update-written call asks = go (request line) asks
+    where
+      go : (r : Request) → calls-of r ≡ call ∷ [] → reply t m r ≡ record { text = update-text (act t call m .refusal); memory = act t call m .memory }
+      go (Add p L hop) e = let same : Call·Add p L hop ≡ call = cc in rw (← same)
+      go (Drop p L) e = let same : Withdraw p L ≡ call = cc in rw (← same)
+      go (Move p L hop) e = let same : Change p L hop ≡ call = cc in rw (← same)
+      go (Find address) e = cc
+      go Unreadable e = cc
+
+  -- A find is answered by what a lookup answers; it leaves memory and paper as they are.
+  pub find-written : (address : ℕ) → request line ≡ Find address
+      → (line-reply t m line ≡ record { text = lookup-text (lookup t m address); memory = m }) × (calls-of (request line) ≡ [])
+  unfolding line-reply reply calls-of
+  find-written address asks = (rw asks, rw asks)
+
+  -- An unreadable line is told that it is one, and leaves them so too.
+  pub unreadable-written : request line ≡ Unreadable → (line-reply t m line ≡ record { text = unreadable; memory = m }) × (calls-of (request line) ≡ [])
+  unfolding line-reply reply calls-of
+  unreadable-written asks = (rw asks, rw asks)
 
 -- an answer that finds a route is written as its hop, its length and the probes
 route-written : {r : Route} {probes : ℕ} (a : Answer) → Finds a r → a .probes ≡ probes → lookup-text a ≡ route-text (r .hop) (r .length) probes
@@ -73,15 +101,10 @@ module _ {t : Settings} {calls : List Call} {answers : List ℕ} {m : Memory} (h
   module _ (line : List ℕ) where
     -- An update is answered ok, or refused with the number that the stored routes give it.
     pub numbers-written : (call : Call) → calls-of (request line) ≡ call ∷ [] → line-reply t m line .text ≡ update-text (number-given t routes call)
-    unfolding calls-of text-by
-    numbers-written call asks = text-on-paper history line ∙ go (request line) asks
-      where
-        go : (r : Request) → calls-of r ≡ call ∷ [] → text-by t routes r ≡ update-text (number-given t routes call)
-        go (Add p L hop) e = cc
-        go (Drop p L) e = cc
-        go (Move p L hop) e = cc
-        go (Find address) e = cc
-        go Unreadable e = cc
+    unfolding all-word-sized
+    numbers-written call asks =
+        let sized = both (word-sized call) _ (rw asks at (line-made t m line .words)) .0 in
+        ap (λ r. r .text) (update-written t m line call asks) ∙ ap update-text (numbers-given history call sized)
 
     -- The number in its answer is that number and no other.
     pub number-exactly : (call : Call) → calls-of (request line) ≡ call ∷ [] → (n : ℕ) → line-reply t m line .text ≡ update-text n → n ≡ number-given t routes call
@@ -93,12 +116,7 @@ module _ {t : Settings} {calls : List Call} {answers : List ℕ} {m : Memory} (h
     unfolding update-text
     accepted-exactly call asks = (λ ok. sym (number-exactly call asks 0 ok), λ none. numbers-written call asks ∙ ap update-text none)
 
-    -- An unreadable line is told so; it leaves memory and paper as they are.
-    pub unreadable-written : request line ≡ Unreadable → (line-reply t m line ≡ record { text = unreadable; memory = m }) × (calls-of (request line) ≡ [])
-    unfolding line-reply reply calls-of
-    unreadable-written asks = (rw asks, rw asks)
-
-    -- No other line is.
+    -- Only an unreadable line is told that it is.
     pub unreadable-exactly : line-reply t m line .text ≡ unreadable → request line ≡ Unreadable
     unreadable-exactly h = only-unreadable t routes (request line) (sym (text-on-paper history line) ∙ h)
 
@@ -107,13 +125,8 @@ module _ {t : Settings} {calls : List Call} {answers : List ℕ} {m : Memory} (h
     word : address < 2 ^ 32
     word = rw asks at (request-words line)
 
-    -- It is answered by a lookup, and leaves memory and paper as they are.
-    pub find-written : (line-reply t m line ≡ record { text = lookup-text (lookup t m address); memory = m }) × (calls-of (request line) ≡ [])
-    unfolding line-reply reply calls-of
-    find-written = (rw asks, rw asks)
-
     told : line-reply t m line .text ≡ lookup-text (lookup t m address)
-    told = ap (λ r. r .text) (find-written .0)
+    told = ap (λ r. r .text) (find-written t m line address asks .0)
 
     counted : (L : ℕ) → lookup t m address .length ≡ L → lookup t m address .probes ≡ probes-down-to t routes address L
     counted L e = probes-counted history address word ∙ ap (probes-down-to t routes address) e
@@ -157,8 +170,8 @@ module _ {t : Settings} {calls : List Call} {answers : List ℕ} {m : Memory} (h
   module _ (line : List ℕ) (r : Route) (stands : Stored r routes) (hop : ℕ) (high : hop ≤ 65535) (asks : request line ≡ Add (r .prefix) (r .length) hop) where
     -- It is answered ok,
     pub replacing-written : line-reply t m line .text ≡ spelled "ok\n"
-    unfolding line-reply reply updated act update-text
-    replacing-written = rw asks (ap update-text (stored-accepted history r stands hop high))
+    unfolding calls-of update-text
+    replacing-written = ap (λ r. r .text) (update-written t m line _ (ap calls-of asks)) ∙ ap update-text (stored-accepted history r stands hop high)
 
     -- and the paper has its new hop, and the old one no more.
     pub replacing-noted : let call = Call·Add (r .prefix) (r .length) hop in

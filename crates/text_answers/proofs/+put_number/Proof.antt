@@ -1,4 +1,4 @@
--- `answers::put_number` meets its contract. The measure is the number: its last digit goes after those of a tenth of it.
+-- `text_answers::put_number` meets its contract. The measure is the number: its last digit goes after those of a tenth of it.
 use Prim.Native.Nat.{ℕ, _+_, _%_, _<_}
 use native.Mathlib.Omega.{arith}
 use lib.ListN.{length-set}

@@ -1,4 +1,4 @@
--- `answers::put` meets its contract. The invariant: the bytes passed are put, and nothing else is touched.
+-- `text_answers::put` meets its contract. The invariant: the bytes passed are put, and nothing else is touched.
 use Prim.Native.Nat.{_-_, _≤_}
 use mathlib.Core.Path.{_≡_, refl, _∙_}
 use native.Mathlib.Omega.{arith}

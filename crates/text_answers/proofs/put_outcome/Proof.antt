@@ -1,4 +1,4 @@
--- `answers::put_outcome` meets its contract: texts put one after the other are one longer text.
+-- `text_answers::put_outcome` meets its contract: texts put one after the other are one longer text.
 use native.Mathlib.Omega.{arith}
 use borrow.Author.Needs.{needs}
 use borrow.Author.Tests.{eq-eqb, ne-eqb}

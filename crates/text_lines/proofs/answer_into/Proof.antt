@@ -1,4 +1,4 @@
--- `lines::answer_into` meets its contract: what the line was read as says which call replies, and that call's contract says how.
+-- `text_lines::answer_into` meets its contract: what the line was read as says which call replies, and that call's contract says how.
 use mathlib.Core.Path.{refl, sym, _∙_}
 use borrow.Author.Needs.{needs}
 use Rattle.text_lines.specs.Lines.{reply, line-reply}

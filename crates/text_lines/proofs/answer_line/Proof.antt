@@ -1,4 +1,4 @@
--- `lines::answer_line` meets its contract: without room nothing is put, and with it the inner call's contract says all.
+-- `text_lines::answer_line` meets its contract: without room nothing is put, and with it the inner call's contract says all.
 use mathlib.Core.Path.{refl}
 use native.Mathlib.Omega.{arith}
 use borrow.Author.Needs.{needs}

@@ -1,4 +1,4 @@
--- `lines::feed_chunk` meets its contract: without room the stream stays, and with it the inner call's contract says all.
+-- `text_lines::feed_chunk` meets its contract: without room the stream stays, and with it the inner call's contract says all.
 use mathlib.Core.Bool.{true}
 use borrow.Author.Needs.{needs}
 use Rattle.rules.proofs.Told.{told-false, told-true}

@@ -1,4 +1,4 @@
--- `lines::feed_into` meets its contract. The invariant: what lies in lent memory is the stream after the bytes passed, and each of the three ways of a turn is one law of `Streams`.
+-- `text_lines::feed_into` meets its contract. The invariant: what lies in lent memory is the stream after the bytes passed, and each of the three ways of a turn is one law of `Streams`.
 use Prim.Native.Nat.{_-_}
 use mathlib.Core.Path.{_≡_, refl}
 use mathlib.Core.Bool.{false}

@@ -1,4 +1,4 @@
--- `lines::finish_input` meets its contract: without room the stream stays; with it nothing is kept, or what is kept is a line that ends.
+-- `text_lines::finish_input` meets its contract: without room the stream stays; with it nothing is kept, or what is kept is a line that ends.
 use mathlib.Core.Bool.{true, false}
 use native.Mathlib.Omega.{arith}
 use borrow.Author.Needs.{needs}

@@ -1,4 +1,4 @@
--- `lines::has_room` meets its contract: the tests stand in the order of `roomy`, and a quotient stands for the product, which might not fit.
+-- `text_lines::has_room` meets its contract: the tests stand in the order of `roomy`, and a quotient stands for the product, which might not fit.
 use Prim.Native.Nat.{_*_, _/_}
 use native.Mathlib.Omega.{arith}
 use lib.ListN.{length}

@@ -1,4 +1,4 @@
--- `lines::has_room_at` meets its contract: past the end nothing fits in, and before it what is left is compared.
+-- `text_lines::has_room_at` meets its contract: past the end nothing fits in, and before it what is left is compared.
 use Prim.Native.Nat.{_+_, _-_}
 use native.Mathlib.Omega.{arith}
 use borrow.Author.Needs.{needs}

@@ -1,4 +1,4 @@
--- `routes::write_first` meets its contract: a part of n bytes has n bytes, since there are as many.
+-- `text_program::write_first` meets its contract: a part of n bytes has n bytes, since there are as many.
 use native.Mathlib.Omega.{arith}
 use borrow.Author.Needs.{needs}
 use lib.Seq.{length-take-le}
@@ -10,11 +10,5 @@ slice-aggregate-write-all c =
     let start = c .before .before in
     omega (arith, length-take-le (start .args .n) (start .args .bytes .now) (start .pre))
 
-write-all-requires : tie.Need-write-all-requires
-write-all-requires c κs = search needs
-
-returns : tie.Need-returns
-returns c = search needs
-
 pub write-first-spec : {M : Type 1} → statement M
-write-first-spec = tie.close (tie.spec slice-aggregate-write-all write-all-requires returns)
+write-first-spec = tie.close (tie.spec slice-aggregate-write-all (λ c κs. search needs) (λ c. search needs))

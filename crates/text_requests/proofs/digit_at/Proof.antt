@@ -1,4 +1,4 @@
--- `requests::digit_at` meets its contract: at each `return` the tests that led there say what digit the byte is.
+-- `text_requests::digit_at` meets its contract: at each `return` the tests that led there say what digit the byte is.
 use borrow.Author.Needs.{needs}
 use borrow.Author.Tests.{le-leb, lt-leb}
 use Rattle.rules.specs.Tools.{within}

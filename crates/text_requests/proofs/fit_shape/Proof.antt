@@ -1,4 +1,4 @@
--- `requests::fit_shape` meets its contract. The invariant: the whole shape's answer is that of the items still to come, from where the line is read to.
+-- `text_requests::fit_shape` meets its contract. The invariant: the whole shape's answer is that of the items still to come, from where the line is read to.
 use Prim.Native.Nat.{_-_, _≤_}
 use mathlib.Core.Path.{_≡_, refl, sym, _∙_}
 use native.Mathlib.Omega.{arith}

@@ -1,4 +1,4 @@
--- `requests::item_at` meets its contract: the tests on the item say which case of `item` it is, and what `number_at` answered is the number there.
+-- `text_requests::item_at` meets its contract: the tests on the item say which case of `item` it is, and what `number_at` answered is the number there.
 use mathlib.Core.Path.{sym, _∙_}
 use native.Mathlib.Omega.{arith}
 use borrow.Author.Needs.{needs}

@@ -1,4 +1,4 @@
--- `requests::number_at` meets its contract. What carries it is the invariant `Read`: the digits passed have written the value, and the next one stands at the end.
+-- `text_requests::number_at` meets its contract. What carries it is the invariant `Read`: the digits passed have written the value, and the next one stands at the end.
 use Prim.Native.Nat.{_-_, _≤_, _<_}
 use mathlib.Core.Path.{refl, sym, _∙_}
 use native.Mathlib.Omega.{arith}

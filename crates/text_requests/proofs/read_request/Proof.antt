@@ -1,4 +1,4 @@
--- `requests::read_request` meets its contract: each shape that did not fit goes to the next one, and the first that fits names the call.
+-- `text_requests::read_request` meets its contract: each shape that did not fit goes to the next one, and the first that fits names the call.
 use mathlib.Core.Path.{_≡_, sym, _∙_}
 use borrow.Author.Needs.{needs}
 use borrow.Author.Tests.{lt-ltb, le-ltb}
