@@ -43,10 +43,11 @@
  * each of the 32 values of d among them. Lookups may run at the same time, those of a list each into results
  * of its own; an update must run alone, and so must a message.
  *
- * What is proved of these calls, in a C program's own terms, is stated in
- * crates/c_promises/proofs/Promises.antt and, of lists, in Lists.antt beside it; specs/Numbers.antt there
- * has the functions that take an answer apart. Of messages it is crates/message_promises/proofs/FromC.antt.
- * The functions on a table stand on these calls and are tested.
+ * What is proved of these calls: whatever a program does with them after an accepted clear is a history
+ * (crates/c_promises/proofs/Seat.antt), of which crates/promises/proofs/Promises.antt states every promise;
+ * and what is read from an answer is what is promised there (crates/c_promises/proofs/Unpacking.antt, and
+ * Lists.antt beside it; specs/Numbers.antt there has the functions that take an answer apart). The functions
+ * on a table stand on these calls and are tested.
  *
  * Choosing settings. A length has 2^e buckets of s slots, and a route goes into the one bucket that
  * its prefix hashes to: once that is full a new route is refused, however empty the others are. So a

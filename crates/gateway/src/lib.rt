@@ -1,7 +1,7 @@
 // The gateway table for C: nine exported calls on numbers and lent memory. No call requires anything,
 // keeps anything or copies the memory. Questions read the slots as bytes, four to a word, the
 // low byte first; the updates write them as words of the machine. What a C program may rely on is
-// proved in crates/c_promises and, of messages, in crates/message_promises.
+// proved in crates/c_promises.
 ghost use mathlib.Core.Path.{_≡_};
 ghost use Rattle.rules.specs.Table.{lent, c-lookup, c-match-vector, c-lookup-list, clear, add, withdraw, change};
 ghost use Rattle.message_format.specs.Reading.{apply-message};
