@@ -1,4 +1,4 @@
--- The laws of counting, of a walk, and of a whole message.
+-- The laws of counting, of the walk, and of a whole message.
 pub mod Determined
 pub mod Going
 pub mod Tallies

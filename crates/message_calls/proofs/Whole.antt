@@ -1,10 +1,10 @@
--- A whole message: which number it is given, and that its two walks are all that it does.
+-- A whole message: which number it is given, and that its walk is all that it does.
 use Prim.Native.Nat.{ℕ, suc, _≤_}
 use mathlib.Core.Path.{_≡_, refl, sym, ap, _∙_}
 use mathlib.Core.Bool.{Bool, true, false, not, _&&_}
 use mathlib.Core.List.{List, []}
 use mathlib.Core.Option.{Option, some, none}
-use lib.ListN.{length, length-map}
+use lib.ListN.{length}
 use native.Mathlib.Nat.{suc-ne-zero}
 use native.Mathlib.Omega.{arith}
 use borrow.Author.Tests.{ltb-false}
@@ -15,7 +15,7 @@ use Rattle.rules.proofs.Refusals.{memory-passing}
 use Rattle.message_format.specs.Format.{prefixes-fit, prefixes, header-good, withdrawn-from, withdrawn-to, attributes-from, announced-from, attributes-good, parts-fit, contents-good, well-formed, announces, message-hop, withdrawn-prefixes, announced-prefixes}
 use Rattle.message_format.specs.Reading.{is-hop, hop-in, message-refusal, withdrawals, announcements, message-calls, refused-message, apply-message, reported}
 use Rattle.message_format.proofs.Walks.{prefixes-none}
-use Rattle.message_format.proofs.Counting.{parts, prefixes-few, message-accepted, message-refused}
+use Rattle.message_format.proofs.Counting.{parts, message-accepted, message-refused}
 use Rattle.message_cursors.specs.declared.Prefixes.{Prefixes}
 use Rattle.message_readers.specs.declared.NextHop.{NextHop}
 use Rattle.message_readers.specs.declared.Hop.the-variants.{At, Missing}
@@ -25,8 +25,8 @@ use Rattle.message_readers.proofs.Headers.{read-refused, message-told}
 use Rattle.message_readers.proofs.Places.{due-refused, due-told}
 use Rattle.message_calls.specs.declared.Counts.{Counts}
 use Rattle.message_calls.specs.declared.Task.the-variants.{Withdraw, Add}
-use Rattle.message_calls.specs.Walks.{first-number, task-call, part-calls, none-counted, Few, counts-report, refused-report, walked, walked-to, Fitting}
-use Rattle.message_calls.proofs.Tallies.{few-none, few-within, walked-few, walked-then, walk-reported}
+use Rattle.message_calls.specs.Walks.{first-number, task-call, part-calls, both-calls, none-counted, counts-report, refused-report, walked, walked-to, Apart}
+use Rattle.message_calls.proofs.Tallies.{walk-reported}
 
 -- where the withdrawn routes stand, and the announced ones
 abbrev pub withdrawn-part : (message : List ℕ) → Prefixes
@@ -35,31 +35,21 @@ withdrawn-part message = record { at = 21; end = withdrawn-to message }
 abbrev pub announced-part : (message : List ℕ) → Prefixes
 announced-part message = record { at = announced-from message; end = length message }
 
--- ---- Parts of a well-formed message
-
-module _ (message : List ℕ) (good : well-formed message ≡ true) where
-  contents : (prefixes-fit message withdrawn-from (withdrawn-to message) ≡ true) × (prefixes-fit message (announced-from message) (length message) ≡ true)
-  unfolding well-formed contents-good
-  contents =
-      let inside = both (parts-fit message) (contents-good message) (both (header-good message) _ good .1) .1 in
-      let first = both (prefixes-fit message withdrawn-from (withdrawn-to message)) _ inside in
-      (first .0, both (attributes-good message (attributes-from message) (announced-from message)) _ (first .1) .1)
-
-  pub withdrawn-fits : Fitting message (withdrawn-part message) none-counted
-  withdrawn-fits =
-      let lie = parts message good in
-      record { inside = omega arith; short = lie .short; fits = contents .0; few = few-within few-none (omega arith) }
-
-  pub announced-fits : (t : Settings) (counters slots : List ℕ) {r : Counts} {counters' slots' : List ℕ}
-      → walked t (lent counters slots) none-counted (part-calls Withdraw message (withdrawn-part message)) ≡ walked-to r counters' slots'
-      → Fitting message (announced-part message) r
-  unfolding part-calls
-  announced-fits t counters slots walked-first =
-      let lie = parts message good in
-      let few : length (part-calls Withdraw message (withdrawn-part message)) ≤ announced-from message =
-      rw length-map (omega (arith, prefixes-few message withdrawn-from (withdrawn-to message)))
-      in
-      record { inside = omega arith; short = lie .short; fits = contents .1; few = few-within (walked-few t _ _ walked-first) few }
+pub parts-apart : (message : List ℕ) → well-formed message ≡ true → Apart message (withdrawn-part message) (announced-part message)
+unfolding well-formed contents-good
+parts-apart message good =
+    let inside = both (parts-fit message) (contents-good message) (both (header-good message) _ good .1) .1 in
+    let first = both (prefixes-fit message withdrawn-from (withdrawn-to message)) _ inside in
+    let lie = parts message good in
+    record {
+      withdrawn-lies = lie .withdrawn;
+      after-it = omega arith;
+      announced-lies = lie .announced;
+      inside = omega arith;
+      short = lie .short;
+      withdrawn-fits = first .0;
+      announced-fits = both (attributes-good message (attributes-from message) (announced-from message)) _ (first .1) .1;
+    }
 
 -- ---- The calls
 
@@ -89,7 +79,7 @@ module _ (t : Settings) (counters slots message hops : List ℕ) where
   pub number-read : message-refusal t (lent counters slots) message hops
       ≡ memory-refusal t (lent counters slots) (first-number (message-number (message-read message)) (hop-number (hop-due (announces message) (given (message-hop message)) hops)))
   unfolding message-refusal hop-in
-  number-read = ap (memory-refusal t (lent counters slots)) (rw (read-refused message, due-refused (message-hop message) hops (announces message)) (refuse-first (not (well-formed message)) 11 _))
+  number-read = ap (memory-refusal t (lent counters slots)) (rw (read-refused message, due-refused (announces message) (message-hop message) hops) (refuse-first (not (well-formed message)) 11 _))
 
   refused-as : {number : ℕ} → message-refusal t (lent counters slots) message hops ≡ number → (number ≡ 0 → ⊥)
       → apply-message t (lent counters slots) message hops ≡ reported (refused-report number) counters slots
@@ -115,15 +105,11 @@ module _ (t : Settings) (counters slots message hops : List ℕ) where
       unfolding first-number message-number hop-number
       hopless due = refused-as (past-memory ∙ rw (read, due)) (suc-ne-zero 12)
 
-      -- ---- Both walks
-
-      pub both-walks : {hop : ℕ} → hop-due (announces message) (given (message-hop message)) hops ≡ At hop
-          → {r : Counts} {counters' slots' : List ℕ} → walked t (lent counters slots) none-counted (part-calls Withdraw message (withdrawn-part message)) ≡ walked-to r counters' slots'
-          → {last : Counts} {counters″ slots″ : List ℕ} → walked t (lent counters' slots') r (part-calls (Add hop) message (announced-part message)) ≡ walked-to last counters″ slots″
-          → apply-message t (lent counters slots) message hops ≡ reported (counts-report last) counters″ slots″
-      unfolding first-number message-number hop-number hop-in message-calls withdrawals withdrawn-prefixes part-calls task-call
-      both-walks due first second =
+      pub both-done : {hop : ℕ} → hop-due (announces message) (given (message-hop message)) hops ≡ At hop → {last : Counts} {counters' slots' : List ℕ}
+          → walked t (lent counters slots) none-counted (both-calls message (withdrawn-part message) (announced-part message) hop) ≡ walked-to last counters' slots'
+          → apply-message t (lent counters slots) message hops ≡ reported (counts-report last) counters' slots'
+      unfolding first-number message-number hop-number hop-in message-calls withdrawals withdrawn-prefixes both-calls part-calls task-call
+      both-done due done =
           message-accepted t (lent counters slots) message hops (past-memory ∙ rw (read, due))
           ∙ walk-reported t (lent counters slots) (message-calls message hops)
-          (walked-then t (lent counters slots) none-counted _ _ first
-          ∙ rw (same-adds message hops (due-told (message-hop message) hops (announces message) due .0)) second)
+          (rw (same-adds message hops (due-told (announces message) (message-hop message) hops due .0)) done)

@@ -1,13 +1,13 @@
--- A walk over a part of a message: the single calls that it makes, what it counts, and what it starts from.
-use Prim.Native.Nat.{ℕ, zero, suc, _+_, _≤_}
+-- The walk over the two parts of a message: the single calls that it makes, what it counts, and what it starts from.
+use Prim.Native.Nat.{ℕ, zero, suc, _+_, _≤_, _<_}
 use mathlib.Core.Path.{_≡_}
-use mathlib.Core.Bool.{Bool, true, not}
-use mathlib.Core.List.{List, [], _∷_, map}
-use lib.Dec.{eqb, leb}
+use mathlib.Core.Bool.{Bool, true}
+use mathlib.Core.List.{List, [], _∷_, map, _++_}
+use lib.Dec.{leb}
 use lib.ListN.{length}
 use Rattle.rules.specs.declared.Settings.{Settings}
-use Rattle.rules.specs.Table.{Memory, lent, one-if}
-use Rattle.rules.specs.Calls.{Call, Add, Withdraw, run}
+use Rattle.rules.specs.Table.{Memory, lent}
+use Rattle.rules.specs.Calls.{Call, Add, Withdraw, run, accepted-of, refused-of}
 use Rattle.message_format.specs.declared.Report.{Report}
 use Rattle.message_format.specs.Format.{prefixes-fit, prefixes}
 use Rattle.message_cursors.specs.declared.Prefixes.{Prefixes}
@@ -31,27 +31,29 @@ hop-fits (task.Add hop) = leb hop 65535
 unfoldable pub part-calls : Task → (message : List ℕ) → Prefixes → List Call
 part-calls task message part = map (λ q. task-call task (q .prefix) (q .length)) (prefixes message (part .at) (part .end))
 
+-- those of both parts: each withdrawn prefix, and then each announced one with the hop
+unfoldable pub both-calls : (message : List ℕ) (withdrawn announced : Prefixes) (hop : ℕ) → List Call
+both-calls message withdrawn announced hop =
+    part-calls task.Withdraw message withdrawn ++ part-calls (task.Add hop) message announced
+
 -- ---- Counts
 
--- To count more of the answers, widen `Counts`, `none-counted`, `counted` and what is made of them, `counts-report`; then mend
--- `count` with its proof and proofs/Tallies.antt. The walk and its proof know `tallied` alone.
+-- To count more of the answers, widen `Counts`, `none-counted`, `tallied` and what is made of them, `counts-report`; then mend
+-- `count` with its proof, and the laws of proofs/Tallies.antt down to `few-low`. The walk and its proof stay: they know that
+-- answers are tallied one by one, and no field.
 
 -- nothing is counted yet
 abbrev pub none-counted : Counts
 none-counted = record { accepted = 0; refused = 0 }
 
--- one answer more
-unfoldable pub counted : Counts → (number : ℕ) → Counts
-counted earlier number =
-    record {
-      accepted = earlier .accepted + one-if (eqb number 0);
-      refused = earlier .refused + one-if (not (eqb number 0));
-    }
-
--- each of these answers, in their order
+-- the counts with these answers more: each is a function of the answers
 unfoldable pub tallied : Counts → (answers : List ℕ) → Counts
-tallied earlier [] = earlier
-tallied earlier (number ∷ answers) = tallied (counted earlier number) answers
+tallied earlier answers =
+    record { accepted = earlier .accepted + accepted-of answers; refused = earlier .refused + refused-of answers }
+
+-- one answer more
+abbrev pub counted : Counts → (number : ℕ) → Counts
+counted earlier number = tallied earlier (number ∷ [])
 
 -- the counts of so many answers at most
 pub record Few (counts : Counts) (most : ℕ) : Type 0 where
@@ -91,9 +93,12 @@ walked t m earlier calls =
     let made = run t m calls in
     record { counts = tallied earlier (made .answers); memory = made .last }
 
--- a part of a message whose prefixes fit, after fewer calls than bytes
-pub record Fitting (message : List ℕ) (part : Prefixes) (earlier : Counts) : Type 0 where
-  pub inside : part .end ≤ length message
+-- two parts of a message, one after the other, whose prefixes fit
+pub record Apart (message : List ℕ) (withdrawn announced : Prefixes) : Type 0 where
+  pub withdrawn-lies : withdrawn .at ≤ withdrawn .end
+  pub after-it : withdrawn .end < announced .at
+  pub announced-lies : announced .at ≤ announced .end
+  pub inside : announced .end ≤ length message
   pub short : length message ≤ 4096
-  pub fits : prefixes-fit message (part .at) (part .end) ≡ true
-  pub few : Few earlier (part .at)
+  pub withdrawn-fits : prefixes-fit message (withdrawn .at) (withdrawn .end) ≡ true
+  pub announced-fits : prefixes-fit message (announced .at) (announced .end) ≡ true

@@ -1,5 +1,6 @@
 // A neighbour's message, read and applied: every check is passed before the first byte of the table is
 // written. The call requires nothing: bad input gets its number and changes nothing.
+ghost use Prim.Native.Nat.{_≤_};
 ghost use mathlib.Core.Path.{_≡_};
 ghost use mathlib.Core.Bool.{true};
 ghost use Rattle.rules.specs.Table.{lent, left, in-range};
@@ -7,7 +8,7 @@ ghost use Rattle.rules.specs.Calls.{act};
 ghost use Rattle.rules.specs.Ready.{Counters, Slots};
 ghost use Rattle.updates.specs.Checked.{Checked};
 ghost use Rattle.message_format.specs.Reading.{apply-message, reported};
-ghost use Rattle.message_calls.specs.Walks.{refused-report, counts-report, counted, Few, task-call, hop-fits, part-calls, walked, walked-to, Fitting};
+ghost use Rattle.message_calls.specs.Walks.{refused-report, counts-report, none-counted, counted, Few, task-call, hop-fits, both-calls, walked, walked-to, Apart};
 use message_cursors::NextPrefix;
 use message_cursors::Prefixes;
 use message_format::Report;
@@ -91,25 +92,29 @@ fn apply_task(
     }
 }
 
-// Applies a task to each prefix of a part, in their order, and counts on.
-fn apply_each(
+// Withdraws each prefix of one part, then adds each of another with this hop, in their order, and counts.
+fn apply_parts(
     settings: Settings,
     counters: &mut [u8],
     slots: &mut [u32],
     message: &[u8],
-    part: Prefixes,
-    task: Task,
-    earlier: Counts,
+    withdrawn: Prefixes,
+    announced: Prefixes,
+    hop: u32,
 ) -> Counts
     requires { ⌜ in-range settings ≡ true ⌝ }
     requires { ⌜ Counters settings (now counters) ⌝ }
     requires { ⌜ Slots settings (now slots) ⌝ }
-    requires { ⌜ Fitting (now message) part earlier ⌝ }
-    requires { ⌜ hop-fits task ≡ true ⌝ }
-    ensures { λ r. ⌜ walked settings (lent (now (counters .entry)) (now (slots .entry))) earlier (part-calls task (now (message .entry)) part) ≡ walked-to r (now (counters .exit)) (now (slots .exit)) ⌝ }
+    requires { ⌜ Apart (now message) withdrawn announced ⌝ }
+    requires { ⌜ hop ≤ 65535 ⌝ }
+    ensures { λ r. ⌜ walked settings (lent (now (counters .entry)) (now (slots .entry))) none-counted (both-calls (now (message .entry)) withdrawn announced hop) ≡ walked-to r (now (counters .exit)) (now (slots .exit)) ⌝ }
 {
-    let mut rest = part;
-    let mut counts = earlier;
+    let mut task = Task::Withdraw;
+    let mut rest = withdrawn;
+    let mut counts = Counts {
+        accepted: 0,
+        refused: 0,
+    };
     loop {
         match rest.next(message) {
             NextPrefix::Prefix {
@@ -122,7 +127,11 @@ fn apply_each(
                 rest = after;
             }
             NextPrefix::End => {
-                return counts;
+                if let Task::Add(_) = task {
+                    return counts;
+                }
+                task = Task::Add(hop);
+                rest = announced;
             }
             // There is none in a message that was read from end to end.
             NextPrefix::Fault => {
@@ -166,26 +175,13 @@ pub fn apply_message(
         at: announced_from,
         end: message.len(),
     };
-    let earlier = Counts {
-        accepted: 0,
-        refused: 0,
-    };
-    let between = apply_each(
+    report_counts(apply_parts(
         settings,
         counters,
         slots,
         message,
         withdrawn,
-        Task::Withdraw,
-        earlier,
-    );
-    report_counts(apply_each(
-        settings,
-        counters,
-        slots,
-        message,
         announced,
-        Task::Add(hop),
-        between,
+        hop,
     ))
 }

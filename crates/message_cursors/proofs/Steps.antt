@@ -1,7 +1,7 @@
 -- What a step gives, by what stands at the cursor.
 use Prim.Native.Nat.{ℕ, _+_, _≤_, _<_}
 use mathlib.Core.Path.{_≡_, refl, subst}
-use mathlib.Core.Bool.{Bool, true, false, cond, not, _&&_}
+use mathlib.Core.Bool.{Bool, true, false, not, _&&_}
 use mathlib.Core.List.{List}
 use lib.ListN.{length}
 use lib.Dec.{ltb, leb}
@@ -85,13 +85,11 @@ module _ {A : Type 0} (size at end : ℕ) (fits : Bool) (read nothing fault : A)
 
     -- a step whose fault alone has a number, 12, has it exactly if something is left that does not fit
     step-number : (number : A → ℕ) → number read ≡ 0 → number nothing ≡ 0 → number fault ≡ 12 → number stepped ≡ refuse (ltb at end && not fits) 12 0
-    unfolding step refuse
-    step-number number reads ends faults = simp (le-ltb _ _ inside) (go (ltb at end) fits)
-      where
-        go : (more f : Bool) → number (cond more (cond f read fault) nothing) ≡ cond (more && not f) 12 0
-        go true true = reads
-        go true false = faults
-        go false f = ends
+    unfolding refuse
+    step-number number reads ends faults = by-step (λ answer. number answer ≡ refuse (ltb at end && not fits) 12 0)
+        (λ more fit. rw (lt-ltb _ _ more, fit) reads)
+        (λ past. rw (le-ltb _ _ past) ends)
+        (λ more unfit. rw (lt-ltb _ _ more, unfit) faults)
 
 -- ---- What a step's answer means, and what it tells
 

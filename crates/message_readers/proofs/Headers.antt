@@ -1,6 +1,6 @@
 -- What a message's first checks tell.
 use Prim.Native.Nat.{ℕ, zero, suc, _+_, _≤_, _<_}
-use mathlib.Core.Path.{_≡_, refl, sym, _∙_}
+use mathlib.Core.Path.{_≡_, refl, sym, ap, _∙_}
 use mathlib.Core.Bool.{Bool, true, false, cond, not, _&&_, and-false}
 use mathlib.Core.List.{List}
 use mathlib.Core.Logic.{_⊎_, inl, inr}
@@ -9,10 +9,11 @@ use native.Mathlib.Numerals.{add-one}
 use native.Mathlib.Omega.{arith}
 use lib.Dec.{leb, eqb}
 use lib.ListN.{length}
-use borrow.Author.Tests.{leb-true, le-leb, lt-leb, eq-eqb, ne-eqb}
+use borrow.Author.Tests.{leb-true, le-leb, lt-leb, eq-eqb, ne-eqb, not-false}
 use Rattle.rules.specs.Tools.{within}
 use Rattle.rules.specs.Table.{refuse}
 use Rattle.rules.proofs.Members.{both}
+use Rattle.rules.proofs.Refusals.{passed}
 use Rattle.message_format.specs.Format.{byte, two-bytes, prefixes-fit, all-ones, header-good, withdrawn-from, withdrawn-to, attributes-from, announced-from, attributes-good, parts-fit, message-hop, contents-good, well-formed}
 use Rattle.message_format.proofs.Counting.{refused-so}
 use Rattle.message_readers.specs.declared.NextHop.{NextHop}
@@ -120,10 +121,8 @@ pub record MessageTold (bytes : List ℕ) (withdrawn announced : ℕ) (next : Ne
   pub hop : given (message-hop bytes) ≡ next
 
 pub message-told : (bytes : List ℕ) {withdrawn announced : ℕ} {next : NextHop} → message-read bytes ≡ Good withdrawn announced next → MessageTold bytes withdrawn announced next
-unfolding message-read
-message-told bytes {withdrawn} {announced} {next} told = go (well-formed bytes) refl told
-  where
-    go : (good : Bool) → well-formed bytes ≡ good → cond good (Good (withdrawn-to bytes) (announced-from bytes) (given (message-hop bytes))) Fault ≡ Good withdrawn announced next
-        → MessageTold bytes withdrawn announced next
-    go true e is = record { good = e; withdrawn-ends = cc; announced-starts = cc; hop = cc }
-    go false e is = let never : _≡_ {A = ℕ} 0 1 = cc in absurd (omega arith)
+unfolding message-read message-number
+message-told bytes read =
+    let good : well-formed bytes ≡ true = not-false _ (passed _ 11 0 (sym (read-refused bytes) ∙ ap message-number read) .0) in
+    let is = rw good at read in
+    record { good = good; withdrawn-ends = cc; announced-starts = cc; hop = cc }

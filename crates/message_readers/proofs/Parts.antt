@@ -5,8 +5,9 @@ use mathlib.Core.Bool.{Bool, true, false, cond, not, _&&_, and-true, and-false}
 use mathlib.Core.List.{List, [], _∷_}
 use lib.Dec.{eqb}
 use native.Mathlib.Omega.{arith}
-use borrow.Author.Tests.{eq-eqb, ne-eqb}
+use borrow.Author.Tests.{eq-eqb, ne-eqb, not-false}
 use Rattle.rules.specs.Table.{refuse}
+use Rattle.rules.proofs.Refusals.{passed}
 use Rattle.message_format.specs.Format.{prefix-fits, prefixes-fit, four-bytes, type-of, value-from, value-size, after-attribute, attribute-fits, attributes-fit, next-hops, at-most-one, attributes-good, first-hop, next-hop}
 use Rattle.message_format.proofs.Walks.{with-hop, after-prefix-later, after-attribute-later, fit-none, fit-next, attributes-none, attributes-next, hops-none, hops-next}
 use Rattle.message_cursors.specs.declared.Prefixes.{Prefixes}
@@ -158,10 +159,8 @@ module _ (bytes : List ℕ) (at end : ℕ) where
       go false = refl
 
   pub hop-told : {next : NextHop} → hop-read bytes at end ≡ Good next → (attributes-good bytes at end ≡ true) × (given (next-hop bytes at end) ≡ next)
-  unfolding hop-read
-  hop-told {next} told = go (attributes-good bytes at end) refl told
-    where
-      go : (good : Bool) → attributes-good bytes at end ≡ good → cond good (Good (given (next-hop bytes at end))) Fault ≡ Good next
-          → (attributes-good bytes at end ≡ true) × (given (next-hop bytes at end) ≡ next)
-      go true e is = (e, cc)
-      go false e is = let never : _≡_ {A = ℕ} 0 1 = cc in absurd (omega arith)
+  unfolding hop-read attributes-number
+  hop-told read =
+      let good : attributes-good bytes at end ≡ true = not-false _ (passed _ 11 0 (sym attributes-refused ∙ ap attributes-number read) .0) in
+      let is = rw good at read in
+      (good, cc)

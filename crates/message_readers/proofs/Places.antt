@@ -1,6 +1,6 @@
 -- The search of an address in the list of next hops.
 use Prim.Native.Nat.{ℕ, _+_, _≤_, _<_}
-use mathlib.Core.Path.{_≡_, refl, sym, _∙_}
+use mathlib.Core.Path.{_≡_, refl, sym, subst, _∙_}
 use mathlib.Core.Bool.{Bool, true, false, cond, not, _&&_, false≢true}
 use mathlib.Core.List.{List}
 use mathlib.Core.Option.{Option, some, none}
@@ -55,38 +55,33 @@ module _ {hops : List ℕ} {address i : ℕ} (before : NotBefore hops address i)
 
 -- ---- What the answer means, and what it tells
 
-module _ (o : Option ℕ) (hops : List ℕ) where
+-- a hop is the place of the NEXT_HOP, where it is wanted
+abbrev Found : (announces : Bool) (place : Option ℕ) → Hop → Type 0
+Found announces place (At hop) = (announces ≡ true → place ≡ some hop) × (hop ≤ 65535)
+Found announces place Missing = announces ≡ true
+
+-- its number, and so much of its value
+abbrev Due : (announces : Bool) (place : Option ℕ) → Hop → Type 0
+Due announces place answer = (hop-number answer ≡ refuse (announces && not (is-hop place)) 13 0) × Found announces place answer
+
+due : (announces : Bool) (o : Option ℕ) (hops : List ℕ) → Due announces (hop-place hops o) (hop-due announces (given o) hops)
+unfolding refuse hop-number hop-due hop-found hop-of hop-place given is-hop
+due false o hops = (refl, ((λ e. absurd (false≢true e)), omega arith))
+due true none hops = (refl, refl)
+due true (some address) hops = at (place-in hops address)
+  where
+    low : (place : ℕ) (b : Bool) → leb place 65535 ≡ b → Due true (some place) (cond b (At place) Missing)
+    low place true e = (rw e, ((λ is. refl), leb-true _ _ e))
+    low place false e = (rw e, refl)
+
+    at : (place : Option ℕ) → Due true place (hop-of place)
+    at none = (refl, refl)
+    at (some place) = low place (leb place 65535) refl
+
+module _ (announces : Bool) (o : Option ℕ) (hops : List ℕ) where
   -- Number 13 is meant exactly where prefixes are announced and their hop is not in the list.
-  pub due-refused : (announces : Bool) → hop-number (hop-due announces (given o) hops) ≡ refuse (announces && not (is-hop (hop-place hops o))) 13 0
-  unfolding refuse hop-number hop-due hop-found is-hop hop-of hop-place given
-  due-refused false = refl
-  due-refused true = asked o
-    where
-      low : (place : ℕ) (b : Bool) → hop-number (cond b (At place) Missing) ≡ cond (not b) 13 0
-      low place true = refl
-      low place false = refl
+  pub due-refused : hop-number (hop-due announces (given o) hops) ≡ refuse (announces && not (is-hop (hop-place hops o))) 13 0
+  due-refused = due announces o hops .0
 
-      at : (place : Option ℕ) → hop-number (hop-of place) ≡ refuse (not (is-hop place)) 13 0
-      at none = refl
-      at (some place) = low place (leb place 65535)
-
-      asked : (o : Option ℕ) → hop-number (hop-due true (given o) hops) ≡ refuse (not (is-hop (hop-place hops o))) 13 0
-      asked none = refl
-      asked (some address) = at (place-in hops address)
-
-  pub due-told : (announces : Bool) {hop : ℕ} → hop-due announces (given o) hops ≡ At hop → (announces ≡ true → hop-place hops o ≡ some hop) × (hop ≤ 65535)
-  unfolding hop-due given hop-place hop-found hop-of
-  due-told announces {hop} = asked announces o
-    where
-      low : (place : ℕ) (b : Bool) → leb place 65535 ≡ b → cond b (At place) Missing ≡ At hop → (some place ≡ some hop) × (hop ≤ 65535)
-      low place true l is = let same : place ≡ hop = cc in (rw same, rw (← same) (leb-true _ _ l))
-      low place false l is = let never : _≡_ {A = ℕ} 0 1 = cc in absurd (omega arith)
-
-      at : (place : Option ℕ) → hop-of place ≡ At hop → (place ≡ some hop) × (hop ≤ 65535)
-      at none is = let never : _≡_ {A = ℕ} 0 1 = cc in absurd (omega arith)
-      at (some place) is = low place (leb place 65535) refl is
-
-      asked : (announces : Bool) (o : Option ℕ) → hop-due announces (given o) hops ≡ At hop → (announces ≡ true → hop-place hops o ≡ some hop) × (hop ≤ 65535)
-      asked false o is = ((λ e. absurd (false≢true e)), let same : 0 ≡ hop = cc in omega arith)
-      asked true none is = let never : _≡_ {A = ℕ} 0 1 = cc in absurd (omega arith)
-      asked true (some address) is = let there = at (place-in hops address) is in ((λ e. there .0), there .1)
+  pub due-told : {hop : ℕ} → hop-due announces (given o) hops ≡ At hop → (announces ≡ true → hop-place hops o ≡ some hop) × (hop ≤ 65535)
+  due-told is = subst (Found announces (hop-place hops o)) is (due announces o hops .1)

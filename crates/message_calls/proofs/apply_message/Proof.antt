@@ -1,8 +1,7 @@
--- The checks come first, each with its number, and then the walks: laws of proofs/Whole.antt.
-use mathlib.Core.Path.{_≡_, refl, sym, _∙_}
+-- The checks come first, each with its number, and then the walk: laws of proofs/Whole.antt.
+use mathlib.Core.Path.{_≡_, sym, _∙_}
 use denote.Ref.{now}
 use borrow.Author.Needs.{needs}
-use borrow.Author.Tests.{le-leb}
 use Rattle.rules.specs.Table.{lent, memory-refusal}
 use Rattle.rules.proofs.Refusals.{Fitted, memory-passed}
 use Rattle.message_format.specs.Format.{announces, message-hop}
@@ -12,9 +11,7 @@ use Rattle.message_readers.specs.declared.Message.the-variants.{Good}
 use Rattle.message_readers.specs.Readings.{given, hop-due, message-read}
 use Rattle.message_readers.proofs.Headers.{MessageTold, message-told}
 use Rattle.message_readers.proofs.Places.{due-told}
-use Rattle.message_calls.specs.declared.Task.the-variants.{Withdraw}
-use Rattle.message_calls.specs.Walks.{none-counted, hop-fits, part-calls, walked, walked-to}
-use Rattle.message_calls.proofs.Whole.{withdrawn-part, withdrawn-fits, announced-fits, memory-refused, faulty, hopless, both-walks}
+use Rattle.message_calls.proofs.Whole.{parts-apart, memory-refused, faulty, hopless, both-done}
 use Rattle.message_calls.proofs.apply_message.Statement.{statement}
 use Rattle.message_calls.proofs.apply_message.Tie as tie
 
@@ -58,40 +55,25 @@ returns-3 c =
     rw (c .report-refused3 .ensures)
     (hopless _ _ _ _ _ (fit (k .before .before .before .before)) (read k) (due found (c .before .enum-told2 .given .1)))
 
-apply-each-requires : tie.Need-apply-each-requires
-unfolding hop-fits
-apply-each-requires c κs =
+-- the hop that was found
+found : (c : tie.After-apply-parts-arg2) → let a = c .before .before .before .before .before .before .before .before .before .before .before .before .before .before .before .before .before .before .args in
+    hop-due (announces (now (a .message))) (given (message-hop (now (a .message)))) (now (a .hops)) ≡ At (c .before .before .before .hop .given .0 .0)
+found c = due (c .before .before .before .before .before) (c .before .before .before .hop .given .1)
+
+apply-parts-requires : tie.Need-apply-parts-requires
+apply-parts-requires c κs =
     let k = c .before .before .before .before .before .before in
     let good = told k in
     let memory = fitted (k .before .before .before .before) in
-    (memory .range, (record { size = memory .counters-fit }, (record { size = memory .slots-fit }, (rw (good .withdrawn-ends) (withdrawn-fits _ (good .good)), refl))))
-
--- what the first walk left
-walked-first : (c : tie.After-apply-each) → let a = c .before .before .before .before .before .before .before .before .before .before .before .before .before .before .before .before .before .before .before .args in
-    walked (a .settings) (lent (now (a .counters)) (now (a .slots))) none-counted (part-calls Withdraw (now (a .message)) (withdrawn-part (now (a .message))))
-    ≡ walked-to (c .apply-each .result) (c .apply-each .last .1 .0) (c .apply-each .last .1 .1 .0)
-walked-first c = rw (told (c .before .before .before .before .before .before .before) .withdrawn-ends) at (c .apply-each .ensures)
-
--- the hop that was found
-found : (c : tie.After-apply-each) → let a = c .before .before .before .before .before .before .before .before .before .before .before .before .before .before .before .before .before .before .before .args in
-    hop-due (announces (now (a .message))) (given (message-hop (now (a .message)))) (now (a .hops)) ≡ At (c .before .before .before .before .hop .given .0 .0)
-found c = due (c .before .before .before .before .before .before) (c .before .before .before .before .hop .given .1)
-
-apply-each-requires-2 : tie.Need-apply-each-requires-2
-unfolding hop-fits
-apply-each-requires-2 c κs =
-    let done = c .before .before .before .before .before .before in
-    let good = told (done .before .before .before .before .before .before .before) in
-    let memory = fitted (done .before .before .before .before .before .before .before .before .before .before .before) in
-    (memory .range, (record { size = search needs }, (record { size = search needs }, (rw (good .announced-starts) (announced-fits _ (good .good) _ _ _ (walked-first done)), le-leb _ _ (due-told _ _ _ (found done) .1)))))
+    (memory .range, (record { size = memory .counters-fit }, (record { size = memory .slots-fit }, (rw (good .withdrawn-ends, good .announced-starts) (parts-apart _ (good .good)), due-told _ _ _ (found c) .1))))
 
 returns-4 : tie.Need-returns-4
 returns-4 c =
     let last = c .before .before .before .before .before in
-    let done = last .before .before .before .before .before .before .before in
-    let k = done .before .before .before .before .before .before .before in
+    let k = last .before .before .before .before .before .before .before in
+    let good = told k in
     rw (c .report-counts .ensures)
-    (both-walks _ _ _ _ _ (fit (k .before .before .before .before)) (read k) (found done) (walked-first done) (rw (told k .announced-starts) at (last .apply-each2 .ensures)))
+    (both-done _ _ _ _ _ (fit (k .before .before .before .before)) (read k) (found (last .before)) (rw (good .withdrawn-ends, good .announced-starts) at (last .apply-parts .ensures)))
 
 pub apply-message-spec : {M : Type 1} → statement M
 apply-message-spec =
@@ -116,8 +98,7 @@ apply-message-spec =
     (λ c. search needs)
     (λ c. search needs)
     returns-3
-    apply-each-requires
-    apply-each-requires-2
+    apply-parts-requires
     (λ c κs. search needs)
     (λ c. search needs)
     (λ c. search needs)
