@@ -4,7 +4,7 @@
 #   make test                      every test; its last line is the verdict, 'N passed, 0 failed'
 #   make lib                       the proved library for C: target/staticlib/libgateway.a
 #   make examples                  target/forward, a C program that forwards by a table, and target/neighbour,
-#                                  one that does a neighbour's messages
+#                                  one that applies a neighbour's messages
 #   make install PREFIX=/usr/local header, archive and pkg-config file; DESTDIR is put before PREFIX
 #   make uninstall                 takes these three away again
 #   make settings                  measures which settings take how many routes, and what a D for each length
@@ -12,7 +12,7 @@
 #   make second                    target/second, the independent program that checks the library and
 #                                  the text program
 #   make soak SECONDS=60           runs it on random histories, or CALLS=10000000; SEED=1 fixes them. On a
-#                                  machine that is no x86-64 half are on the library compiled for that machine,
+#                                  machine that is not x86-64 half are on the library compiled for that machine,
 #                                  for testing only, and half on the archive
 #   make memory                    shows under valgrind that the library touches no byte that is not lent;
 #                                  SEED=1 fixes the calls, TABLES=1000 says how many tables they are of

@@ -5,10 +5,10 @@
  *
  * The routes are the arguments, as 10.0.0.0/8 7; without any they are 10.0.0.0/8 to hop 7 and 10.1.0.0/16 to
  * hop 9. Where a prefix is given again, its last hop stands. D says how large the filters are, from 4 to 11: one
- * number for all lengths, or 32 parted by commas, that of length 1 first. Without -d it is 10.
+ * number for all lengths, or 32 separated by commas, that of length 1 first. Without -d it is 10.
  *
  * Each line of standard input is an address. For each, one line is written: hop, length and probes, or
- * "none" and the probes. A line that is no address is told on standard error, its odd bytes as \xNN, and
+ * "none" and the probes. A line that is no address is reported on standard error, its odd bytes as \xNN, and
  * passed over; the exit status is then 1.
  *
  * Addresses that come in together are looked up together, a lot by one call, and are answered before more
@@ -114,7 +114,7 @@ static void take_character(struct line *line, char character)
 }
 
 /* Puts the address that is a whole line into the lot, and is ready for the next line. A line that is no
-   address is told, after the answers to those before it, and 0 given. */
+   address is reported, after the answers to those before it, and 0 given. */
 static int take_line(struct line *line)
 {
     const size_t kept = line->length < LINE ? line->length : LINE;

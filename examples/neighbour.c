@@ -4,7 +4,7 @@
  *     neighbour [-d D] [NEXT_HOP]...
  *
  * The arguments are the addresses of next hops; the first is hop 0. D says how large the filters are, from 4 to
- * 11: one number for all lengths, or 32 parted by commas, that of length 1 first. Without -d it is 10. Each line of
+ * 11: one number for all lengths, or 32 separated by commas, that of length 1 first. Without -d it is 10. Each line of
  * standard input is one of
  *
  *     ff ff ff ...                an UPDATE message, two hexadecimal digits to a byte, with or without spaces
@@ -13,7 +13,7 @@
  *
  * For each, one line is written: how many of the message's routes the table accepted and refused; the next hop
  * of the address and the route that it goes by, or "none"; the message that withdraws the prefix, which another
- * neighbour can read. A line that is refused, or is none of these, is told on standard error and passed over; the
+ * neighbour can read. A line that is refused, or is none of these, is reported on standard error and passed over; the
  * exit status is then 1.
  */
 #include "text.h"

@@ -36,7 +36,7 @@ static inline int skip(const char **text, char character)
     return 1;
 }
 
-/* Four octets parted by dots. */
+/* Four octets separated by dots. */
 static inline int read_address(const char **text, uint32_t *address)
 {
     uint32_t octet;
@@ -66,8 +66,8 @@ static inline void show_text(const char *text, size_t size)
     fputs("'\n", stderr);
 }
 
-/* Each length's D: one number from 4 to 11 for all lengths, or 32 parted by commas, that of length 1 first. What
-   is wrong is told on standard error, and 0 answered. */
+/* Each length's D: one number from 4 to 11 for all lengths, or 32 separated by commas, that of length 1 first. What
+   is wrong is reported on standard error, and 0 answered. */
 static inline int read_filters(const char *program, const char *text, uint8_t d[GATEWAY_LENGTHS])
 {
     const char *at = text;

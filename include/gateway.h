@@ -108,7 +108,7 @@
 extern "C" {
 #endif
 
-/* The version of this header, of its archive and of its pkg-config file; CHANGELOG.md tells them apart. */
+/* The version of this header, of its archive and of its pkg-config file; CHANGELOG.md lists the versions. */
 #define GATEWAY_VERSION "0.6.1"
 
 /* An answer that is not looked at is a refusal that nobody sees: the compiler warns of it. */
@@ -175,7 +175,7 @@ static inline const char *gateway_refusal_text(uint32_t refusal)
 /*
  * The sizes to lend, as constants for an array's size; the values of d, e and s must be in their ranges.
  * GATEWAY_COUNTERS_BYTES and GATEWAY_TABLE_BYTES are those of a table whose values of d are all equal.
- * GATEWAY_COUNTERS_BYTES_OF takes all 32, parted by commas; another count does not compile. The functions
+ * GATEWAY_COUNTERS_BYTES_OF takes all 32, separated by commas; another count does not compile. The functions
  * below them answer 0 where a setting is out of its range, or d has not 32 values.
  */
 #define GATEWAY_COUNTERS_BYTES(d) ((size_t)GATEWAY_LENGTHS << (d))
@@ -354,7 +354,7 @@ GATEWAY_ANSWERS uint64_t gateway_lookup_list(uint32_t k, const uint8_t *d, size_
 /*
  * Does one message of a neighbour: an UPDATE of BGP (RFC 4271). Each route that it withdraws is withdrawn, as
  * by gateway_withdraw, and then each that it announces is added, as by gateway_add, in the message's order.
- * A route that the table refuses is counted and skipped, and the others are done. gateway_accepted and
+ * A route that the table refuses is counted and skipped, and the others are applied. gateway_accepted and
  * gateway_refused of the answer are the two counts. Together they are the routes of the message, of which
  * there are at most 4073, so that each count fits into its 12 bits.
  *
@@ -373,7 +373,7 @@ GATEWAY_ANSWERS uint64_t gateway_lookup_list(uint32_t k, const uint8_t *d, size_
  * not sixteen bytes of 255, the length is not as above, the type is not 2 (UPDATE; so an OPEN or a KEEPALIVE
  * is refused), a part runs past the end of what it stands in, a prefix is longer than 32, or NEXT_HOP comes
  * twice or is not 4 bytes long; GATEWAY_BAD_NEXT_HOP, if routes are announced without a NEXT_HOP, or with one
- * that the list does not have at a place up to 65535. Of a refused message no route is done: nothing is
+ * that the list does not have at a place up to 65535. Of a refused message no route is applied: nothing is
  * changed.
  */
 GATEWAY_ANSWERS uint64_t gateway_update(uint32_t k, const uint8_t *d, size_t d_count, uint32_t e,
