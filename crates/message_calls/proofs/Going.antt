@@ -2,7 +2,7 @@
 use Prim.Native.Nat.{ℕ, _+_, _-_, _≤_, _<_}
 use mathlib.Core.Path.{_≡_, refl, sym, ap, _∙_}
 use mathlib.Core.Bool.{Bool, true, false, not, _&&_}
-use mathlib.Core.List.{List, [], _∷_, _++_, map, append-nil}
+use mathlib.Core.List.{List, [], _++_, map, append-nil}
 use lib.ListN.{length}
 use native.Mathlib.Omega.{arith}
 use lib.Dec.{leb, ltb}
@@ -13,7 +13,7 @@ use Rattle.rules.specs.Calls.{Call, act}
 use Rattle.rules.proofs.Members.{both}
 use Rattle.rules.proofs.Prefixes.{prefix-again}
 use Rattle.updates.specs.Checked.{Checked}
-use Rattle.message_format.specs.Format.{byte, prefix-from, after-prefix, prefix-fits, prefixes-fit, prefixes}
+use Rattle.message_format.specs.Format.{byte, prefix-from, after-prefix, prefix-fits, prefixes-fit}
 use Rattle.message_format.proofs.Walks.{after-prefix-later, fit-next, prefixes-none, prefixes-next}
 use Rattle.message_cursors.specs.declared.Prefixes.{Prefixes}
 use Rattle.message_cursors.specs.Steps.{next-prefix, prefix-number}

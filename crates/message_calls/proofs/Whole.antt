@@ -1,7 +1,7 @@
 -- A whole message: which number it is given, and that its walk is all that it does.
-use Prim.Native.Nat.{ℕ, suc, _≤_}
+use Prim.Native.Nat.{ℕ, suc}
 use mathlib.Core.Path.{_≡_, refl, sym, ap, _∙_}
-use mathlib.Core.Bool.{Bool, true, false, not, _&&_}
+use mathlib.Core.Bool.{Bool, true, false, not}
 use mathlib.Core.List.{List, []}
 use mathlib.Core.Option.{Option, some, none}
 use lib.ListN.{length}
@@ -12,8 +12,8 @@ use Rattle.rules.specs.declared.Settings.{Settings}
 use Rattle.rules.specs.Table.{lent, memory-refusal, refuse}
 use Rattle.rules.proofs.Members.{both}
 use Rattle.rules.proofs.Refusals.{memory-passing}
-use Rattle.message_format.specs.Format.{prefixes-fit, prefixes, header-good, withdrawn-from, withdrawn-to, attributes-from, announced-from, attributes-good, parts-fit, contents-good, well-formed, announces, message-hop, withdrawn-prefixes, announced-prefixes}
-use Rattle.message_format.specs.Reading.{is-hop, hop-in, message-refusal, withdrawals, announcements, message-calls, refused-message, apply-message, reported}
+use Rattle.message_format.specs.Format.{prefixes-fit, header-good, withdrawn-from, withdrawn-to, attributes-from, announced-from, attributes-good, parts-fit, contents-good, well-formed, announces, message-hop, withdrawn-prefixes, announced-prefixes}
+use Rattle.message_format.specs.Reading.{hop-in, message-refusal, withdrawals, announcements, message-calls, refused-message, apply-message, reported}
 use Rattle.message_format.proofs.Walks.{prefixes-none}
 use Rattle.message_format.proofs.Counting.{parts, message-accepted, message-refused}
 use Rattle.message_cursors.specs.declared.Prefixes.{Prefixes}
@@ -21,10 +21,10 @@ use Rattle.message_readers.specs.declared.NextHop.{NextHop}
 use Rattle.message_readers.specs.declared.Hop.the-variants.{At, Missing}
 use Rattle.message_readers.specs.declared.Message.the-variants.{Good, Fault}
 use Rattle.message_readers.specs.Readings.{given, hop-number, hop-due, message-read, message-number}
-use Rattle.message_readers.proofs.Headers.{read-refused, message-told}
+use Rattle.message_readers.proofs.Headers.{read-refused}
 use Rattle.message_readers.proofs.Places.{due-refused, due-told}
 use Rattle.message_calls.specs.declared.Counts.{Counts}
-use Rattle.message_calls.specs.declared.Task.the-variants.{Withdraw, Add}
+use Rattle.message_calls.specs.declared.Task.the-variants.{Add}
 use Rattle.message_calls.specs.Walks.{first-number, task-call, part-calls, both-calls, none-counted, counts-report, refused-report, walked, walked-to, Apart}
 use Rattle.message_calls.proofs.Tallies.{walk-reported}
 

@@ -18,7 +18,6 @@ use Rattle.message_format.specs.Format.{byte, two-bytes, prefixes-fit, all-ones
 use Rattle.message_format.proofs.Counting.{refused-so}
 use Rattle.message_readers.specs.declared.NextHop.{NextHop}
 use Rattle.message_readers.specs.declared.HopRead.the-variants as hops
-use Rattle.message_readers.specs.declared.Message.{Message}
 use Rattle.message_readers.specs.declared.Message.the-variants.{Good, Fault}
 use Rattle.message_readers.specs.Readings.{given, hop-read, attributes-number, message-read, message-number}
 use Rattle.message_readers.proofs.Parts.{attributes-refused, hop-told}

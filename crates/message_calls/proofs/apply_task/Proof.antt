@@ -1,5 +1,4 @@
 -- Either task is one of the table's calls.
-use mathlib.Core.Path.{_≡_, sym, ap, _∙_}
 use borrow.Author.Needs.{needs}
 use borrow.Author.Tests.{leb-true}
 use Rattle.rules.specs.Calls.{act}
