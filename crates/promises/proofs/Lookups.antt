@@ -54,7 +54,7 @@ module _ (t : Settings) (slots : List ℕ) (address : ℕ) (claimed : ℕ → Bo
   search-misses zero k none-held = refl
   search-misses (suc n) k none-held = go (claimed (suc n)) (λ j. search-misses n j (λ L lo hi. none-held L lo (le-step hi)))
     where
-      go : (b : Bool) → ((j : ℕ) → search t slots address j (those claimed (down-from n)) ≡ Absent)
+      go : (b : Bool) → ((j : ℕ) → search t slots address j (those claimed (down-from n)) ≡ Absent Full)
           → search t slots address k (cond b (suc n ∷ those claimed (down-from n)) (those claimed (down-from n))) ≡ Absent Full
       go true rest = rw (none-held (suc n) (omega arith) (le-refl (suc n))) (rest (k + 1))
       go false rest = rest k
