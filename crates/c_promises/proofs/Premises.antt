@@ -14,7 +14,7 @@ use Rattle.rules.proofs.Worked.{ip, T}
 use Rattle.rules.proofs.Members.{both}
 use Rattle.message_format.specs.Reading.{apply-message, report-number}
 use Rattle.message_format.proofs.Worked.{computing as reading}
-use Rattle.promises.specs.History.{Route, stored, History, Ran, Stop, Then}
+use Rattle.promises.specs.History.{Route, stored-by, History, Ran, Stop, Then}
 use Rattle.promises.specs.Demands.{Finds, SaysNone, Reordered, Nothing, First, Longest, NoMatch, probes-down-to, adds}
 use Rattle.promises.proofs.Agree.{sevens, showing}
 use Rattle.promises.proofs.Paper.{route}
@@ -63,7 +63,7 @@ addresses = bytes-of (ip 10 2 2 3 ∷ ip 11 0 0 1 ∷ [])
 record Worked (t : Settings) (before : Memory) : Type 0 where
   cleared : act t Clear before .refusal ≡ 0
   given : run t (act t Clear before .memory) day .answers ≡ day-answers
-  probed : probes-down-to t (stored day day-answers) (ip 10 2 2 3) 8 ≡ 1
+  probed : probes-down-to t (stored-by day day-answers) (ip 10 2 2 3) 8 ≡ 1
   reported : apply-message t (act t Clear before .memory) message hops .report ≡ record { refusal = 0; accepted = 1; refused = 1 }
   calls-given : run t (act t Clear before .memory) calls .answers ≡ 7 ∷ 0 ∷ []
 
@@ -101,9 +101,9 @@ module _ {t : Settings} {before : Memory} (worked : Worked t before) where
   looked : (m : Memory) → LookedUp t m (ip 10 2 2 3) (c-lookup t (m .counters) (bytes-of (m .slots)) (ip 10 2 2 3))
   looked m = record { word = lit< tt; crossed = refl }
 
-  best : Longest (ip 10 2 2 3) (stored day day-answers) (route (ip 10 0 0 0) 8 9)
+  best : Longest (ip 10 2 2 3) (stored-by day day-answers) (route (ip 10 0 0 0) 8 9)
   unfolding day day-answers showing
-  best = right (ip 10 2 2 3) (stored day day-answers)
+  best = right (ip 10 2 2 3) (stored-by day day-answers)
 
   -- a lookup of 10.2.2.3 finds 10.0.0.0/8 with the last hop, 9, in one probe
   found-met : Finds (read-answer (c-lookup t (last .counters) (bytes-of (last .slots)) (ip 10 2 2 3))) (route (ip 10 0 0 0) 8 9)
@@ -123,7 +123,7 @@ module _ {t : Settings} {before : Memory} (worked : Worked t before) where
 
   list-none-met : SaysNone (read-result (list last .results) 1)
   unfolding day day-answers showing addresses bytes-of list-address word-at
-  list-none-met = rw (result-read (list-asked last) list-met 1 (lit< tt)) (says-none day-lived (ip 11 0 0 1) (lit< tt) (right (ip 11 0 0 1) (stored day day-answers)))
+  list-none-met = rw (result-read (list-asked last) list-met 1 (lit< tt)) (says-none day-lived (ip 11 0 0 1) (lit< tt) (right (ip 11 0 0 1) (stored-by day day-answers)))
 
   -- ---- A message
 
@@ -145,14 +145,14 @@ module _ {t : Settings} {before : Memory} (worked : Worked t before) where
   -- 10.2.2.3 gets the hop of the list's second place
   message-found-met : Finds (lookup t (apply-message t empty message hops .memory) (ip 10 2 2 3)) (route (ip 10 0 0 0) 8 1)
   unfolding showing
-  message-found-met = finds-longest message-lived (ip 10 2 2 3) (lit< tt) (route (ip 10 0 0 0) 8 1) (right (ip 10 2 2 3) (stored calls (7 ∷ 0 ∷ [])))
+  message-found-met = finds-longest message-lived (ip 10 2 2 3) (lit< tt) (route (ip 10 0 0 0) 8 1) (right (ip 10 2 2 3) (stored-by calls (7 ∷ 0 ∷ [])))
 
   -- ---- A table newly cleared
 
   order : List Route
   order = route (ip 10 0 0 0) 8 9 ∷ []
 
-  order-same : Reordered (stored day day-answers) order
+  order-same : Reordered (stored-by day day-answers) order
   unfolding day day-answers order showing
   order-same = First (route (ip 10 0 0 0) 8 9) Nothing
 

@@ -10,7 +10,7 @@ use lib.ListN.{length, getD}
 use Rattle.rules.specs.declared.Settings.{Settings}
 use Rattle.rules.specs.Table.{Memory, one-if, answer-number}
 use Rattle.rules.specs.Calls.{Call}
-use Rattle.promises.specs.History.{Route, stored, SingleCalls, History}
+use Rattle.promises.specs.History.{Route, stored-by, SingleCalls, History}
 use Rattle.promises.specs.Demands.{Reordered, Longest, NoMatch, probes-down-to, adds}
 use Rattle.promises.proofs.Histories.{one-made, made-append}
 use Rattle.promises.proofs.Promises.{finds-longest, says-none, probes-counted, same-numbers, same-lookups-after, same-vectors-after}
@@ -26,7 +26,7 @@ module _ {t : Settings} {calls : List Call} {answers : List ℕ} {m : Memory} (h
     {address answer : ℕ} (asked : LookedUp t m address answer) where
   -- the routes that the history stores
   abbrev routes : List Route
-  routes = stored calls answers
+  routes = stored-by calls answers
 
   -- For a route that is found,
   pub number-found : (r : Route) → Longest address routes r
@@ -48,7 +48,7 @@ module _ {t : Settings} {calls : List Call} {answers : List ℕ} {m : Memory} (h
 -- Whatever single calls are then made to both, none at all among others, the two give a C program the same 64-bit number. What
 -- it did to both is such calls by c-made (proofs/Seat.antt).
 module _ {t : Settings} {calls : List Call} {answers : List ℕ} {m : Memory} (history : History t calls answers m)
-    {order : List Route} (same : Reordered (stored calls answers) order) {new-answers : List ℕ} {new-m : Memory} (anew : History t (adds order) new-answers new-m)
+    {order : List Route} (same : Reordered (stored-by calls answers) order) {new-answers : List ℕ} {new-m : Memory} (anew : History t (adds order) new-answers new-m)
     {more : List Call} {more-answers more-new-answers : List ℕ} {last new-last : Memory}
     (made : SingleCalls t m more more-answers last) (made-anew : SingleCalls t new-m more more-new-answers new-last) where
   -- They give it for a lookup,

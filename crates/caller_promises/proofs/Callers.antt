@@ -9,7 +9,7 @@ use Rattle.rules.specs.declared.Settings.{Settings}
 use Rattle.rules.specs.Table.{Memory}
 use Rattle.rules.specs.Calls.{Call, Clear, all-word-sized, run, each}
 use Rattle.message_format.specs.declared.Report.{Report}
-use Rattle.promises.specs.History.{stored, SingleCalls, History, Ran}
+use Rattle.promises.specs.History.{stored-by, SingleCalls, History, Ran}
 use Rattle.promises.specs.Demands.{paper}
 use Rattle.promises.proofs.Histories.{routes-on-paper, made, one-made, seat-made, seat-history}
 use Rattle.message_promises.specs.Heard.{heard-calls}
@@ -44,5 +44,5 @@ served-history cleared ran = seat-history did-single (one-made (called-word clea
 -- What they store follows from the updates and the messages alone, refused ones left out: no answer but a message's refusal
 -- is looked at.
 pub served-stores : {t : Settings} {before empty m : Memory} {calls : List Call} {answers : List ℕ} → Called t Clear before 0 empty → Ran (Did t) empty calls answers m
-    → stored calls answers ≡ paper t [] calls .last
+    → stored-by calls answers ≡ paper t [] calls .last
 served-stores cleared ran = routes-on-paper (served-history cleared ran)

@@ -28,7 +28,7 @@ use Rattle.rules.proofs.Settings.Laws.{the-laws}
 use Rattle.rules.proofs.Worked.{ip, T}
 use Rattle.message_format.specs.Reading.{apply-message}
 use Rattle.message_format.proofs.Worked.{computing as reading}
-use Rattle.promises.specs.History.{stored, History, Stop, Then}
+use Rattle.promises.specs.History.{stored-by, History, Stop, Then}
 use Rattle.promises.specs.Demands.{Finds, SaysNone, Words, answer-at, paper}
 use Rattle.promises.proofs.Agree.{sevens, showing}
 use Rattle.promises.proofs.Paper.{route}
@@ -131,7 +131,7 @@ one-served = served-history clear-called (Then (Addresses list-short) (Then (Sin
 -- 10.2.2.3 finds the route,
 looked-met : Finds (lookup T one (ip 10 2 2 3)) (route (ip 10 0 0 0) 8 7)
 unfolding showing
-looked-met = finds-longest one-served (ip 10 2 2 3) (looked-word looked) (route (ip 10 0 0 0) 8 7) (right (ip 10 2 2 3) (stored (Add (ip 10 0 0 0) 8 7 ∷ []) (0 ∷ [])))
+looked-met = finds-longest one-served (ip 10 2 2 3) (looked-word looked) (route (ip 10 0 0 0) 8 7) (right (ip 10 2 2 3) (stored-by (Add (ip 10 0 0 0) 8 7 ∷ []) (0 ∷ [])))
 
 -- as the first place of the list does, of which the second says none
 list-found : Finds (answer-at two-answers 0) (route (ip 10 0 0 0) 8 7)
@@ -141,7 +141,7 @@ list-found = rw (looked-given (place-looked list-called refl 0 (lit< tt))) looke
 list-none : SaysNone (answer-at two-answers 1)
 unfolding showing
 list-none = rw (looked-given (place-looked list-called refl 1 (lit< tt)))
-    (says-none one-served (ip 11 0 0 1) (lit< tt) (right (ip 11 0 0 1) (stored (Add (ip 10 0 0 0) 8 7 ∷ []) (0 ∷ []))))
+    (says-none one-served (ip 11 0 0 1) (lit< tt) (right (ip 11 0 0 1) (stored-by (Add (ip 10 0 0 0) 8 7 ∷ []) (0 ∷ []))))
 
 -- ---- A message, under filters of unequal size
 
@@ -174,11 +174,11 @@ unfolding heard-calls reading showing
 message-served = served-history clear-called-U (Then (Heard message-called) Stop)
 
 -- what is stored is what the two calls leave on paper
-message-stored : stored calls (7 ∷ 0 ∷ []) ≡ paper U [] calls .last
+message-stored : stored-by calls (7 ∷ 0 ∷ []) ≡ paper U [] calls .last
 unfolding heard-calls reading showing
 message-stored = served-stores clear-called-U (Then (Heard message-called) Stop)
 
 -- 10.2.2.3 gets the hop of the list's second place
 message-found : Finds (lookup U told (ip 10 2 2 3)) (route (ip 10 0 0 0) 8 1)
 unfolding showing
-message-found = finds-longest message-served (ip 10 2 2 3) (lit< tt) (route (ip 10 0 0 0) 8 1) (right (ip 10 2 2 3) (stored calls (7 ∷ 0 ∷ [])))
+message-found = finds-longest message-served (ip 10 2 2 3) (lit< tt) (route (ip 10 0 0 0) 8 1) (right (ip 10 2 2 3) (stored-by calls (7 ∷ 0 ∷ [])))

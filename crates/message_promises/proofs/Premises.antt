@@ -13,7 +13,7 @@ use Rattle.rules.proofs.Worked.{ip, T}
 use Rattle.message_format.specs.Reading.{message-calls, apply-message}
 use Rattle.message_format.specs.Writing.{write-withdrawal}
 use Rattle.message_format.proofs.Worked.{computing as reading}
-use Rattle.promises.specs.History.{Route, on-paper, stored, History}
+use Rattle.promises.specs.History.{Route, on-paper, stored-by, History}
 use Rattle.promises.specs.Demands.{some-below, every-below, outside, Finds, First, Nothing, paper, adds}
 use Rattle.promises.proofs.Agree.{sevens, showing}
 use Rattle.promises.proofs.Paper.{route}
@@ -88,7 +88,7 @@ module _ {t : Settings} {before : Memory} (worked : Worked t before) where
   m = apply-message t empty message hops .memory
 
   given : run t empty calls .answers ≡ 7 ∷ 0 ∷ []
-  unfolding stored on-paper
+  unfolding stored-by on-paper
   given = rw heard at (message-numbers begun message hops refl) ∙ worked .numbers
 
   after : History t calls (7 ∷ 0 ∷ []) m
@@ -96,7 +96,7 @@ module _ {t : Settings} {before : Memory} (worked : Worked t before) where
 
   -- one of its routes is refused and one accepted
   counts-met : (apply-message t empty message hops .report .accepted ≡ 1) × (apply-message t empty message hops .report .refused ≡ 1)
-  unfolding stored on-paper accepted-of refused-of those
+  unfolding stored-by on-paper accepted-of refused-of those
   counts-met = (
     rw (heard, worked .numbers) at (message-accepts begun message hops refl),
     rw (heard, worked .numbers) at (message-refuses begun message hops refl),
@@ -105,7 +105,7 @@ module _ {t : Settings} {before : Memory} (worked : Worked t before) where
   -- 10.2.2.3 gets the hop of the list's second place
   found-met : Finds (lookup t m (ip 10 2 2 3)) (route (ip 10 0 0 0) 8 1)
   unfolding showing
-  found-met = finds-longest after (ip 10 2 2 3) (lit< tt) (route (ip 10 0 0 0) 8 1) (right (ip 10 2 2 3) (stored calls (7 ∷ 0 ∷ [])))
+  found-met = finds-longest after (ip 10 2 2 3) (lit< tt) (route (ip 10 0 0 0) 8 1) (right (ip 10 2 2 3) (stored-by calls (7 ∷ 0 ∷ [])))
 
   -- a table newly cleared, to which 10/8 is added, gives the message the same report
   abbrev order : List Route

@@ -12,7 +12,7 @@ use Rattle.rules.specs.Table.{Memory, refuse}
 use Rattle.rules.specs.Calls.{Call, run, accepted-of, refused-of}
 use Rattle.rules.proofs.Refusals.{passed}
 use Rattle.message_format.specs.Reading.{Read, apply-message}
-use Rattle.promises.specs.History.{Route, stored, SingleCalls, History}
+use Rattle.promises.specs.History.{Route, stored-by, SingleCalls, History}
 use Rattle.promises.specs.Demands.{Reordered, paper, adds}
 use Rattle.promises.proofs.Histories.{made-append, history-more, more-answers-on-paper, more-routes-on-paper}
 use Rattle.promises.proofs.Promises.{checks-passed, same-numbers}
@@ -34,7 +34,7 @@ module _ {t : Settings} {calls : List Call} {answers : List ℕ} {m : Memory} (h
 
   -- and the routes stored before it
   abbrev routes : List Route
-  routes = stored calls answers
+  routes = stored-by calls answers
 
   -- It is refused with 12 or 13 alone, by the message and the list of next hops.
   pub message-given : applied .report .refusal ≡ refuse (malformed message) 12 (refuse (no-hop message hops) 13 0)
@@ -65,14 +65,14 @@ module _ {t : Settings} {calls : List Call} {answers : List ℕ} {m : Memory} (h
     message-refuses = refused-counted t m message hops ∙ ap refused-of message-numbers
 
     -- What is stored after it follows from what was stored before it.
-    pub message-stores : stored (calls ++ heard) (answers ++ run t m heard .answers) ≡ paper t routes heard .last
+    pub message-stores : stored-by (calls ++ heard) (answers ++ run t m heard .answers) ≡ paper t routes heard .last
     message-stores = more-routes-on-paper history (message-single t m message hops bytes)
 
 -- ---- Demand 3, of a table newly cleared under these settings, to which the stored routes are added, in any order
 
 -- Both were given some more calls since, the single calls of messages among them, and now a message.
 module _ {t : Settings} {calls : List Call} {answers : List ℕ} {m : Memory} (history : History t calls answers m)
-    {order : List Route} (same : Reordered (stored calls answers) order) {new-answers : List ℕ} {new-m : Memory} (anew : History t (adds order) new-answers new-m)
+    {order : List Route} (same : Reordered (stored-by calls answers) order) {new-answers : List ℕ} {new-m : Memory} (anew : History t (adds order) new-answers new-m)
     {more : List Call} {more-answers more-new-answers : List ℕ} {last new-last : Memory}
     (made : SingleCalls t m more more-answers last) (made-anew : SingleCalls t new-m more more-new-answers new-last)
     (message hops : List ℕ) (bytes : areBytes message ≡ true) where

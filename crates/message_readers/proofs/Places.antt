@@ -14,7 +14,7 @@ use Rattle.rules.proofs.Lowest.{lowest-on, lowest-here, none-below, none-before
 use Rattle.message_format.specs.Reading.{place-in, hop-place, is-hop}
 use Rattle.message_readers.specs.declared.Hop.{Hop}
 use Rattle.message_readers.specs.declared.Hop.the-variants.{At, Missing}
-use Rattle.message_readers.specs.Readings.{given, hop-of, hop-found, hop-number, hop-due}
+use Rattle.message_readers.specs.Readings.{given, place-hop, hop-found, hop-number, hop-due}
 
 -- the address is not among the first i
 pub record NotBefore (hops : List ℕ) (address i : ℕ) : Type 0 where
@@ -32,15 +32,15 @@ module _ {hops : List ℕ} {address i : ℕ} (before : NotBefore hops address i)
   not-here ne = record { unmet = lowest-on test i (before .unmet) (ne-eqb _ _ ne) }
 
   pub here : i < length hops → i ≤ 65535 → getD hops i 0 ≡ address → hop-found hops address ≡ At i
-  unfolding hop-found hop-of place-in
+  unfolding hop-found place-hop place-in
   here l low e = rw (lowest-here test (length hops) i l (before .unmet) (eq-eqb _ _ e), le-leb _ _ low)
 
   pub nowhere : length hops ≤ i → hop-found hops address ≡ Missing
-  unfolding hop-found hop-of place-in
+  unfolding hop-found place-hop place-in
   nowhere l = rw (none-before test i (length hops) l (before .unmet))
 
   pub too-high : 65535 < i → hop-found hops address ≡ Missing
-  unfolding hop-found hop-of place-in
+  unfolding hop-found place-hop place-in
   too-high high = go (lowest test (length hops)) refl
     where
       beyond : (s : ℕ) → test s ≡ true → (b : Bool) → ltb s i ≡ b → 65535 < s
@@ -65,7 +65,7 @@ abbrev Due : (announces : Bool) (place : Option ℕ) → Hop → Type 0
 Due announces place answer = (hop-number answer ≡ refuse (announces && not (is-hop place)) 13 0) × Found announces place answer
 
 due : (announces : Bool) (o : Option ℕ) (hops : List ℕ) → Due announces (hop-place hops o) (hop-due announces (given o) hops)
-unfolding refuse hop-number hop-due hop-found hop-of hop-place given is-hop
+unfolding refuse hop-number hop-due hop-found place-hop hop-place given is-hop
 due false o hops = (refl, ((λ e. absurd (false≢true e)), omega arith))
 due true none hops = (refl, refl)
 due true (some address) hops = at (place-in hops address)
@@ -74,7 +74,7 @@ due true (some address) hops = at (place-in hops address)
     low place true e = (rw e, ((λ is. refl), leb-true _ _ e))
     low place false e = (rw e, refl)
 
-    at : (place : Option ℕ) → Due true place (hop-of place)
+    at : (place : Option ℕ) → Due true place (place-hop place)
     at none = (refl, refl)
     at (some place) = low place (leb place 65535) refl
 

@@ -30,13 +30,13 @@ attributes-number (hops.Good next-hop) = 0
 attributes-number hops.Fault = 12
 
 -- the hop of a place in the list: one that is there and not above 65,535
-unfoldable pub hop-of : (place : Option ℕ) → Hop
-hop-of none = hop.Missing
-hop-of (some place) = cond (leb place 65535) (hop.At place) hop.Missing
+unfoldable pub place-hop : (place : Option ℕ) → Hop
+place-hop none = hop.Missing
+place-hop (some place) = cond (leb place 65535) (hop.At place) hop.Missing
 
 -- the hop of an address
 unfoldable pub hop-found : (hops : List ℕ) (address : ℕ) → Hop
-hop-found hops address = hop-of (place-in hops address)
+hop-found hops address = place-hop (place-in hops address)
 
 -- the hop of what a message announces; 0 where that is nothing
 unfoldable pub hop-due : (announces : Bool) → NextHop → (hops : List ℕ) → Hop

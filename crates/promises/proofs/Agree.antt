@@ -12,7 +12,7 @@ use Rattle.rules.specs.Tools.{those}
 use Rattle.rules.specs.Table.{Memory, claims, bits-where, vector-of, down-from, bit-set, set-bits, search as searched, route-answer, default-answer, place-answer, refused, answer-of, lookup, one-if}
 use Rattle.rules.proofs.Worked.{ip, T, computing as rules-computing}
 use Rattle.rules.specs.Calls.{Call, Add, Withdraw, word-sized, all-word-sized, act, each, run}
-use Rattle.promises.specs.History.{about, without, with-hop, written, noted, on-paper, stored}
+use Rattle.promises.specs.History.{about, without, with-hop, written, noted, on-paper, stored-by}
 use Rattle.promises.specs.Demands.{number-given, needs-place, add-number, withdraw-number, change-number, exists, sum, number, crowded, beside, landings, overflows, matches, marks, covered, probes-down-to, longest, longer}
 use Rattle.promises.specs.Programs.{Acting, Asking, run-by, history-by, our-calls, our-lookups}
 use Rattle.promises.proofs.Matches.{answer-by}
@@ -31,7 +31,7 @@ Z = record { k = 5; d = replicate 32 4; e = 0; s = 4; a = 0; b = 0; c = 0 }
 unfoldable pub right-number : Settings → Acting → List Call → Call → Bool
 right-number t acting calls call =
     let ran = history-by acting t sevens calls in
-    eqb (acting t call (ran .last) .refusal) (number-given t (stored calls (ran .answers)) call)
+    eqb (acting t call (ran .last) .refusal) (number-given t (stored-by calls (ran .answers)) call)
 
 -- two answers are the same
 unfoldable pub same-answers : Answer → Answer → Bool
@@ -44,7 +44,7 @@ same-answers one other =
 unfoldable pub right-answer : Settings → Acting → Asking → List Call → (address : ℕ) → Bool
 right-answer t acting asking calls address =
     let ran = history-by acting t sevens calls in
-    let routes = stored calls (ran .answers) in
+    let routes = stored-by calls (ran .answers) in
     same-answers (asking t (ran .last) address) (answer-by t routes address (longest address routes))
 
 -- ---- The histories
@@ -74,7 +74,7 @@ four-then-one = three ++ Add 4 32 1 ∷ Withdraw 1 32 ∷ Withdraw 2 32 ∷ With
 
 -- to unfold this is to unfold all that a history computes with
 unfoldable pub computing : ℕ
-unfolding rules-computing act each run run-by history-by about without with-hop written noted on-paper stored
+unfolding rules-computing act each run run-by history-by about without with-hop written noted on-paper stored-by
 computing = 0
 
 -- and this, all that is due and all that a lookup computes with

@@ -15,7 +15,7 @@ use Rattle.rules.proofs.Refusals.{memory-passed}
 use Rattle.rules.proofs.Placing.{words-fit, default-fits}
 use Rattle.rules.specs.Calls.{Call, Clear, Add, Withdraw, Change, word-sized, all-word-sized, act, Run, each, run}
 use Rattle.rules.proofs.Calls.{then, each-append, run-append}
-use Rattle.promises.specs.History.{Route, written, noted, on-paper, stored, SingleCalls, History, Ran, Stop, Then}
+use Rattle.promises.specs.History.{Route, written, noted, on-paper, stored-by, SingleCalls, History, Ran, Stop, Then}
 use Rattle.promises.specs.Demands.{sum, number, landings, paper}
 use Rattle.promises.proofs.Sums.{by-cases}
 use Rattle.promises.proofs.Below.{none-below-weighs}
@@ -117,12 +117,12 @@ module _ {t : Settings} {calls : List Call} {answers : List ℕ} {m : Memory} (h
   answers-on-paper = sym (ap (λ ran. ran .answers) (history .ran)) ∙ together .answers
 
   -- and so do the stored routes.
-  pub routes-on-paper : stored calls answers ≡ paper t [] calls .last
-  unfolding stored
+  pub routes-on-paper : stored-by calls answers ≡ paper t [] calls .last
+  unfolding stored-by
   routes-on-paper = rw answers-on-paper (paper-noted t [] calls)
 
   -- Memory and stored routes belong together.
-  pub kept : Kept t (stored calls answers) m
+  pub kept : Kept t (stored-by calls answers) m
   kept = rw (routes-on-paper, ← ap (λ ran. ran .last) (history .ran)) (together .kept)
 
 -- ---- Single calls
@@ -168,10 +168,10 @@ history-more history more = history-of (history .before) (history .cleared) (mad
 -- What those calls are given, and what is stored after them, follows from what was stored before and from the calls.
 module _ {t : Settings} {m last : Memory} {calls more : List Call} {answers more-answers : List ℕ}
     (history : History t calls answers m) (next : SingleCalls t m more more-answers last) where
-  pub more-answers-on-paper : more-answers ≡ paper t (stored calls answers) more .answers
+  pub more-answers-on-paper : more-answers ≡ paper t (stored-by calls answers) more .answers
   more-answers-on-paper = sym (ap (λ ran. ran .answers) (next .ran)) ∙ kept-run (kept history) more (next .words) .answers
 
-  pub more-routes-on-paper : stored (calls ++ more) (answers ++ more-answers) ≡ paper t (stored calls answers) more .last
+  pub more-routes-on-paper : stored-by (calls ++ more) (answers ++ more-answers) ≡ paper t (stored-by calls answers) more .last
   unfolding paper
   more-routes-on-paper = routes-on-paper (history-more history next) ∙ rw (routes-on-paper history) (ap (λ ran. ran .last) (each-append _ _ [] calls more))
 

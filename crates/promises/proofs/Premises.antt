@@ -13,7 +13,7 @@ use Rattle.rules.specs.Tools.{all}
 use Rattle.rules.specs.Table.{bucket, Memory, lookup}
 use Rattle.rules.specs.Calls.{Call, Clear, Add, Withdraw, Change, word-sized, all-word-sized, act, run}
 use Rattle.rules.proofs.Worked.{ip, T}
-use Rattle.promises.specs.History.{Route, stored, History}
+use Rattle.promises.specs.History.{Route, stored-by, History}
 use Rattle.promises.specs.Demands.{Finds, Reordered, Swapped, Longest, adds}
 use Rattle.promises.proofs.Agree.{sevens, showing}
 use Rattle.promises.proofs.Paper.{route}
@@ -98,12 +98,12 @@ module _ {t : Settings} {before : Memory} (worked : Worked t before) where
   -- three routes match 10.1.2.3, and one of them is the longest; it was added twice, and has the last hop
   longest-met : Finds (lookup t (after day) (ip 10 1 2 3)) (route (ip 10 1 0 0) 16 1)
   unfolding day day-answers showing
-  longest-met = finds-longest day-lived (ip 10 1 2 3) (lit< tt) (route (ip 10 1 0 0) 16 1) (right (ip 10 1 2 3) (stored day day-answers))
+  longest-met = finds-longest day-lived (ip 10 1 2 3) (lit< tt) (route (ip 10 1 0 0) 16 1) (right (ip 10 1 2 3) (stored-by day day-answers))
 
   -- only the default matches 12.0.0.1
-  default-best : Longest (ip 12 0 0 1) (stored day day-answers) (route 0 0 3)
+  default-best : Longest (ip 12 0 0 1) (stored-by day day-answers) (route 0 0 3)
   unfolding day day-answers showing
-  default-best = right (ip 12 0 0 1) (stored day day-answers)
+  default-best = right (ip 12 0 0 1) (stored-by day day-answers)
 
   default-met : Finds (lookup t (after day) (ip 12 0 0 1)) (route 0 0 3)
   default-met = finds-default day-lived (ip 12 0 0 1) (lit< tt) (route 0 0 3) (default-best .stored) refl
@@ -112,7 +112,7 @@ module _ {t : Settings} {before : Memory} (worked : Worked t before) where
   -- in the morning nothing matches it
   none-met : lookup t (after morning) (ip 12 0 0 1) .found ≡ false
   unfolding morning showing
-  none-met = none-exactly morning-lived (ip 12 0 0 1) (lit< tt) .1 (right (ip 12 0 0 1) (stored morning (0 ∷ 0 ∷ [])))
+  none-met = none-exactly morning-lived (ip 12 0 0 1) (lit< tt) .1 (right (ip 12 0 0 1) (stored-by morning (0 ∷ 0 ∷ [])))
 
   -- 10.1/16 can be withdrawn, and added again with another hop
   freed-met : act t (Add (ip 10 1 0 0) 16 65535) (act t (Withdraw (ip 10 1 0 0) 16) (after day) .memory) .refusal ≡ 0
@@ -126,9 +126,9 @@ module _ {t : Settings} {before : Memory} (worked : Worked t before) where
 
   -- 8/8 is added again in its full bucket: it is accepted, 8.1.2.3 gets the new hop, and 12.0.0.1, which nothing matches, is
   -- answered as before
-  eight-best : Longest (ip 8 1 2 3) (stored pair (0 ∷ 0 ∷ [])) (route (ip 8 0 0 0) 8 5)
+  eight-best : Longest (ip 8 1 2 3) (stored-by pair (0 ∷ 0 ∷ [])) (route (ip 8 0 0 0) 8 5)
   unfolding pair showing
-  eight-best = right (ip 8 1 2 3) (stored pair (0 ∷ 0 ∷ []))
+  eight-best = right (ip 8 1 2 3) (stored-by pair (0 ∷ 0 ∷ []))
 
   again-met : act t (Add (ip 8 0 0 0) 8 6) (after pair) .refusal ≡ 0
   again-met = stored-accepted pair-lived (route (ip 8 0 0 0) 8 5) (eight-best .stored) 6 (lit≤ tt)
@@ -139,13 +139,13 @@ module _ {t : Settings} {before : Memory} (worked : Worked t before) where
   others-met : lookup t (act t (Add (ip 8 0 0 0) 8 6) (after pair) .memory) (ip 12 0 0 1) ≡ lookup t (after pair) (ip 12 0 0 1)
   unfolding pair showing
   others-met = replaced-others pair-lived (route (ip 8 0 0 0) 8 5) (eight-best .stored) 6 (lit≤ tt) (ip 12 0 0 1) (lit< tt)
-      (λ best. true≢false (sym (best .matching) ∙ right (ip 12 0 0 1) (stored pair (0 ∷ 0 ∷ [])) (route (ip 8 0 0 0) 8 5) (eight-best .stored)))
+      (λ best. true≢false (sym (best .matching) ∙ right (ip 12 0 0 1) (stored-by pair (0 ∷ 0 ∷ [])) (route (ip 8 0 0 0) 8 5) (eight-best .stored)))
 
   -- the two routes of the morning, the first one first
   order : List Route
   order = route (ip 10 0 0 0) 8 7 ∷ route (ip 10 1 0 0) 16 9 ∷ []
 
-  reordered : Reordered (stored morning (0 ∷ 0 ∷ [])) order
+  reordered : Reordered (stored-by morning (0 ∷ 0 ∷ [])) order
   unfolding morning order showing
   reordered = Swapped (route (ip 10 1 0 0) 16 9) (route (ip 10 0 0 0) 8 7) []
 

@@ -15,7 +15,7 @@ use Rattle.rules.specs.Tools.{all}
 use Rattle.rules.specs.Table.{in-range, bucket, Memory, sized, refuse, memory-refusal, unless-refused, clear, lookup, match-vector, bits-where}
 use Rattle.rules.specs.Calls.{Call, Clear, Add, Withdraw, word-sized, act}
 use Rattle.rules.proofs.Refusals.{memory-order}
-use Rattle.promises.specs.History.{Route, about, stored, SingleCalls, History}
+use Rattle.promises.specs.History.{Route, about, stored-by, SingleCalls, History}
 use Rattle.promises.specs.Demands.{Stored, sum, number, Reordered, matches, Longest, NoMatch, Finds, SaysNone, SameButHop, number-given, paper, covered, probes-down-to, lengths-in-use, adds, filter-sum}
 use Rattle.promises.proofs.Sums.{sum-reordered}
 use Rattle.promises.proofs.Counters.{filter-sum-kept}
@@ -36,7 +36,7 @@ clear-accepted t before range sizes = memory-order t before 0 ∙ rw (range, siz
 module _ {t : Settings} {calls : List Call} {answers : List ℕ} {m : Memory} (history : History t calls answers m) where
   -- the routes that the history stores
   abbrev routes : List Route
-  routes = stored calls answers
+  routes = stored-by calls answers
 
   -- ---- Demand 2
 
@@ -139,16 +139,16 @@ module _ {t : Settings} {calls : List Call} {answers : List ℕ} {m : Memory} (h
 -- ---- Demand 3, of a table newly cleared under these settings, to which the stored routes are added, in any order
 
 module _ {t : Settings} {calls : List Call} {answers : List ℕ} {m : Memory} (history : History t calls answers m)
-    {order : List Route} (same : Reordered (stored calls answers) order) {new-answers : List ℕ} {new-m : Memory} (anew : History t (adds order) new-answers new-m) where
-  filled : Anew t [] order (stored calls answers)
+    {order : List Route} (same : Reordered (stored-by calls answers) order) {new-answers : List ℕ} {new-m : Memory} (anew : History t (adds order) new-answers new-m) where
+  filled : Anew t [] order (stored-by calls answers)
   unfolding sum
   filled = added-anew (kept history) [] order (λ weight. zero-add (sum weight order) ∙ sym (sum-reordered weight same))
 
   -- what it stores is what is stored
-  same-routes : Same (stored (adds order) new-answers) (stored calls answers)
+  same-routes : Same (stored-by (adds order) new-answers) (stored-by calls answers)
   same-routes = rw (routes-on-paper anew) (filled .same)
 
-  kept-anew : Kept t (stored calls answers) new-m
+  kept-anew : Kept t (stored-by calls answers) new-m
   kept-anew = kept-same same-routes (kept anew)
 
   -- It accepts them all, each added once.
@@ -166,16 +166,16 @@ module _ {t : Settings} {calls : List Call} {answers : List ℕ} {m : Memory} (h
   -- So it stays, whatever calls are then made to both.
   module _ {more : List Call} {more-answers more-new-answers : List ℕ} {last new-last : Memory}
       (made : SingleCalls t m more more-answers last) (made-anew : SingleCalls t new-m more more-new-answers new-last) where
-    after : Together t (stored calls answers) m more
+    after : Together t (stored-by calls answers) m more
     after = kept-run (kept history) more (made .words)
 
-    after-anew : Together t (stored calls answers) new-m more
+    after-anew : Together t (stored-by calls answers) new-m more
     after-anew = kept-run kept-anew more (made .words)
 
-    kept-last : Kept t (paper t (stored calls answers) more .last) last
+    kept-last : Kept t (paper t (stored-by calls answers) more .last) last
     kept-last = rw (ap (λ ran. ran .last) (made .ran)) at (after .kept)
 
-    kept-new-last : Kept t (paper t (stored calls answers) more .last) new-last
+    kept-new-last : Kept t (paper t (stored-by calls answers) more .last) new-last
     kept-new-last = rw (ap (λ ran. ran .last) (made-anew .ran)) at (after-anew .kept)
 
     -- Each call is given the same number by both.

@@ -49,8 +49,8 @@ on-paper routes (call ∷ calls) [] = routes
 on-paper routes (call ∷ calls) (answer ∷ answers) = on-paper (noted call answer routes) calls answers
 
 -- the routes that a history stores: a clear begins it, with nothing on paper
-unfoldable pub stored : (calls : List Call) (answers : List ℕ) → List Route
-stored calls answers = on-paper [] calls answers
+unfoldable pub stored-by : (calls : List Call) (answers : List ℕ) → List Route
+stored-by calls answers = on-paper [] calls answers
 
 -- ---- Histories
 

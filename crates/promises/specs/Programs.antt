@@ -8,7 +8,7 @@ use Rattle.rules.specs.declared.Settings.{Settings}
 use Rattle.rules.specs.declared.Answer.{Answer}
 use Rattle.rules.specs.Table.{in-range, Memory, Outcome, sized, clear, add, withdraw, change, lookup}
 use Rattle.rules.specs.Calls.{Call, Clear, Add, Withdraw, Change, word-sized, all-word-sized, act, Run, each}
-use Rattle.promises.specs.History.{Route, stored}
+use Rattle.promises.specs.History.{Route, stored-by}
 use Rattle.promises.specs.Demands.{Longest, NoMatch, Finds, SaysNone, number-given, probes-down-to}
 
 -- what the calls of a program that write give back and leave
@@ -38,7 +38,7 @@ pub record Promised (acting : Acting) (asking : Asking) (t : Settings) (m : Memo
 pub record Honest (acting : Acting) (asking : Asking) : Type 0 where
   pub begins : (t : Settings) (before : Memory) → in-range t ≡ true → sized t before ≡ true → acting t Clear before .refusal ≡ 0
   pub after : (t : Settings) (before : Memory) (calls : List Call) → acting t Clear before .refusal ≡ 0 → all-word-sized calls ≡ true
-      → Promised acting asking t (history-by acting t before calls .last) (stored calls (history-by acting t before calls .answers))
+      → Promised acting asking t (history-by acting t before calls .last) (stored-by calls (history-by acting t before calls .answers))
 
 -- ---- Programs that differ from the rules in one call
 

@@ -15,7 +15,7 @@ use Rattle.text_requests.specs.Shapes.{request}
 use Rattle.text_requests.proofs.Words.{WordSized, request-words}
 use Rattle.text_answers.specs.Texts.{update-text, lookup-text}
 use Rattle.text_lines.specs.Lines.{updated, reply, line-reply, lines-text}
-use Rattle.promises.specs.History.{Route, stored, SingleCalls, History}
+use Rattle.promises.specs.History.{Route, stored-by, SingleCalls, History}
 use Rattle.promises.specs.Demands.{longest}
 use Rattle.promises.proofs.Matches.{answer-by}
 use Rattle.promises.proofs.Lookups.{lookup-by-routes}
@@ -43,20 +43,20 @@ module _ (t : Settings) (m : Memory) where
 
 module _ {t : Settings} {calls : List Call} {answers : List ℕ} {m : Memory} (history : History t calls answers m) where
   -- what a lookup answers is written so
-  find-on-paper : (address : ℕ) → address < 2 ^ 32 → lookup-text (lookup t m address) ≡ find-text t (stored calls answers) address (longest address (stored calls answers))
+  find-on-paper : (address : ℕ) → address < 2 ^ 32 → lookup-text (lookup t m address) ≡ find-text t (stored-by calls answers) address (longest address (stored-by calls answers))
   unfolding lookup-text answer-by find-text
-  find-on-paper address word = rw (lookup-by-routes (kept history) address word) (go (longest address (stored calls answers)))
+  find-on-paper address word = rw (lookup-by-routes (kept history) address word) (go (longest address (stored-by calls answers)))
     where
-      go : (o : Option Route) → lookup-text (answer-by t (stored calls answers) address o) ≡ find-text t (stored calls answers) address o
+      go : (o : Option Route) → lookup-text (answer-by t (stored-by calls answers) address o) ≡ find-text t (stored-by calls answers) address o
       go (some r) = refl
       go none = refl
 
   -- What is written to a line is what the routes on paper say.
-  pub text-on-paper : (line : List ℕ) → line-reply t m line .text ≡ text-by t (stored calls answers) (request line)
+  pub text-on-paper : (line : List ℕ) → line-reply t m line .text ≡ text-by t (stored-by calls answers) (request line)
   unfolding line-reply reply updated text-by act word-sized
   text-on-paper line = go (request line) (request-words line)
     where
-      go : (r : Request) → WordSized r → reply t m r .text ≡ text-by t (stored calls answers) r
+      go : (r : Request) → WordSized r → reply t m r .text ≡ text-by t (stored-by calls answers) r
       go (Add p L hop) word = ap update-text (numbers-given history (Call·Add p L hop) (lt-ltb p (2 ^ 32) word))
       go (Drop p L) word = ap update-text (numbers-given history (Withdraw p L) (lt-ltb p (2 ^ 32) word))
       go (Move p L hop) word = ap update-text (numbers-given history (Change p L hop) (lt-ltb p (2 ^ 32) word))
@@ -65,7 +65,7 @@ module _ {t : Settings} {calls : List Call} {answers : List ℕ} {m : Memory} (h
 
 -- So it is of lines, one after the other.
 pub lines-on-paper : {t : Settings} {calls : List Call} {answers : List ℕ} {m : Memory} → History t calls answers m → (lines : List (List ℕ))
-    → lines-text t m lines ≡ paper-answers t (stored calls answers) lines
+    → lines-text t m lines ≡ paper-answers t (stored-by calls answers) lines
 unfolding lines-text paper-answers
 lines-on-paper history [] = refl
 lines-on-paper {t} {m = m} history (line ∷ lines) =

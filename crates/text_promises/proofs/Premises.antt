@@ -15,7 +15,7 @@ use Rattle.rules.proofs.Worked.{ip, T}
 use Rattle.text_spelling.specs.Spelling.{spelled}
 use Rattle.text_answers.specs.Texts.{update-text, route-text, none-text, lookup-text, unreadable}
 use Rattle.text_lines.specs.Lines.{updated, reply, line-reply, lines, input-of, keep, end-line, take-byte, feed, finish, roomy, feed-chunk, finish-input}
-use Rattle.promises.specs.History.{Route, stored, SingleCalls, History, Ran, Stop, Then}
+use Rattle.promises.specs.History.{Route, stored-by, SingleCalls, History, Ran, Stop, Then}
 use Rattle.promises.specs.Demands.{Longest, probes-down-to, number-given}
 use Rattle.promises.proofs.Agree.{sevens}
 use Rattle.promises.proofs.Paper.{route}
@@ -47,7 +47,7 @@ given t m = number-told (line-reply t m eight .text) ∷ number-told (line-reply
 
 -- the routes that are stored then
 abbrev then : List Route
-then = stored morning (0 ∷ 0 ∷ [])
+then = stored-by morning (0 ∷ 0 ∷ [])
 
 -- what is computed under settings t, on memory that held anything
 record Worked (t : Settings) (before : Memory) : Type 0 where

@@ -23,7 +23,7 @@ use Rattle.text_requests.proofs.Words.{request-words}
 use Rattle.text_answers.specs.Texts.{update-text, route-text, none-text, lookup-text, unreadable}
 use Rattle.text_lines.specs.Lines.{updated, reply, line-reply, lines, lines-text, going, stream-text, input-of}
 use Rattle.text_lines.proofs.Cuts.{begins, one-by-one}
-use Rattle.promises.specs.History.{Route, without, written, noted, on-paper, stored, SingleCalls, History, Ran}
+use Rattle.promises.specs.History.{Route, without, written, noted, on-paper, stored-by, SingleCalls, History, Ran}
 use Rattle.promises.specs.Demands.{Stored, matches, Longest, NoMatch, Finds, number-given, paper, probes-down-to, longest}
 use Rattle.promises.proofs.Matches.{Right, right}
 use Rattle.promises.proofs.Answers.{default-longest}
@@ -81,7 +81,7 @@ route-written a its counted = rw (its .refusal, its .found, its .hop, its .lengt
 module _ {t : Settings} {calls : List Call} {answers : List ℕ} {m : Memory} (history : History t calls answers m) where
   -- the routes that are stored then
   abbrev routes : List Route
-  routes = stored calls answers
+  routes = stored-by calls answers
 
   -- What is written to lines is what the paper says, line by line.
   pub paper-says : (lines : List (List ℕ)) → lines-text t m lines ≡ paper-answers t routes lines
@@ -175,7 +175,7 @@ module _ {t : Settings} {calls : List Call} {answers : List ℕ} {m : Memory} (h
 
     -- and the paper has its new hop, and the old one no more.
     pub replacing-noted : let call = Call·Add (r .prefix) (r .length) hop in
-        stored (calls ++ call ∷ []) (answers ++ number-told (line-reply t m line .text) ∷ []) ≡ record { prefix = r .prefix; length = r .length; hop = hop } ∷ without (r .prefix) (r .length) routes
+        stored-by (calls ++ call ∷ []) (answers ++ number-told (line-reply t m line .text) ∷ []) ≡ record { prefix = r .prefix; length = r .length; hop = hop } ∷ without (r .prefix) (r .length) routes
     unfolding numbers-told calls-of paper each noted written
     replacing-noted =
         let next = rw asks at (line-made t m line) in
@@ -196,7 +196,7 @@ module _ {t : Settings} {calls : List Call} {answers : List ℕ} {m : Memory} (h
 -- settings T, and memory of zeros, which is what a clear leaves of it; 65 bytes for the line
 pub program-writes : {chunks : List (List ℕ)} {text : List ℕ} → Streamed T (lent (replicate 512 0) (replicate 257 0)) (replicate 65 0) 0 chunks text
     → text ≡ paper-answers T [] (lines (input-of chunks))
-unfolding computing act run each all-word-sized stored on-paper
+unfolding computing act run each all-word-sized stored-by on-paper
 program-writes streamed =
     let zeros = lent (replicate 512 0) (replicate 257 0) in
     let cleared : History T [] [] zeros = record { before = zeros; cleared = refl; words = refl; ran = refl } in
