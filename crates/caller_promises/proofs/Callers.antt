@@ -1,5 +1,5 @@
--- What a caller of crates/table and crates/message_calls did after an accepted clear is a history: each thing that he did is
--- single calls, by the contracts alone. So every promise of crates/promises holds of what he was given, of a lookup and of a
+-- What a caller of crates/table and crates/message_calls did after an accepted clear is a history: each thing that it did is
+-- single calls, by the contracts alone. So every promise of crates/promises holds of what it was given, of a lookup and of a
 -- match vector by looked-given and matched-given, and of place i of a list by place-looked (proofs/Contracts.antt); and what
 -- crates/message_promises says of a message holds of its report, by message-applied (proofs/Messages.antt).
 use Prim.Native.Nat.{ℕ}

@@ -160,7 +160,7 @@ pub extern "C" fn gateway_lookup_list(
     refusal_part(c_calls::lookup_list(settings, d, counters, slots, addresses, results))
 }
 
-// Does one message of a neighbour: refusal·2^48 + refused·2^12 + accepted.
+// Applies one message of a neighbour: refusal·2^48 + refused·2^12 + accepted.
 #[no_mangle]
 pub extern "C" fn gateway_update(
     k: u32,

@@ -1,6 +1,6 @@
 -- Demands 2 and 3, sentence by sentence, each as one theorem over a history (specs/History.antt): an accepted clear, over
 -- memory that held anything, and then any calls, with any arguments, refused calls included. Whoever makes the calls, what
--- he saw is such a history, and so all of this holds of it. Prefixes and addresses are numbers of 32 bits. The words of the
+-- was seen is such a history, and so all of this holds of it. Prefixes and addresses are numbers of 32 bits. The words of the
 -- demands are in specs/Demands.antt. One fact carries all of them: every history keeps memory and stored routes together
 -- (proofs/Kept.antt). Demand 1 is in proofs/Refused.antt.
 use Prim.Native.Nat.{ℕ, _*_, _^_, _≤_, _<_}
