@@ -32,11 +32,11 @@ module _ (t : Settings) (slots : List ℕ) (sized : Slots t slots) where
 
   -- where the search of p's own bucket answers a slot, held or free, its words are lent
   module _ (p L : ℕ) (ready : Ready t L) {slot : ℕ} where
-    pub held-lent : {M n : ℕ} → bucket-place t slots p L ≡ At slot M n → mark-word slot < length slots
+    pub held-lent : {M n : ℕ} → bucket-place t slots p L ≡ At M n slot → mark-word slot < length slots
     unfolding bucket-place
     held-lent {M} {n} = go (held t slots p L) refl
       where
-        go : (o : Option ℕ) → held t slots p L ≡ o → found-or t p L 1 o (Absent (vacancy-of t p L (vacant t slots p L))) ≡ At slot M n → mark-word slot < length slots
+        go : (o : Option ℕ) → held t slots p L ≡ o → found-or t p L 1 o (Absent (vacancy-of t p L (vacant t slots p L))) ≡ At M n slot → mark-word slot < length slots
         go (some s) there e = let number : slot-number t p L s ≡ slot = cc in rw number at (held-ended p L s ready there .is-lent)
         go none there e = absurd (let z : _≡_ {A = ℕ} 0 1 = cc in omega arith)
 
@@ -56,7 +56,7 @@ module _ (t : Settings) (slots : List ℕ) (sized : Slots t slots) where
     none-left : Lengths []
     one-more : {L : ℕ} {Ls : List ℕ} → Ready t L → Lengths Ls → Lengths (L ∷ Ls)
 
-  pub search-ended : (address probes slot M n : ℕ) {Ls : List ℕ} → Lengths Ls → searched t slots address probes Ls ≡ At slot M n
+  pub search-ended : (address probes slot M n : ℕ) {Ls : List ℕ} → Lengths Ls → searched t slots address probes Ls ≡ At M n slot
       → Ended slots slot
   unfolding searched
   search-ended address probes slot M n none-left e = absurd (let z : _≡_ {A = ℕ} 0 1 = cc in omega arith)
@@ -64,8 +64,8 @@ module _ (t : Settings) (slots : List ℕ) (sized : Slots t slots) where
       go (held t slots (prefix address L) L) refl (search-ended address (probes + 1) slot M n rest) e
     where
       go : (o : Option ℕ) → held t slots (prefix address L) L ≡ o
-          → (searched t slots address (probes + 1) Ls ≡ At slot M n → Ended slots slot)
-          → found-or t (prefix address L) L (probes + 1) o (searched t slots address (probes + 1) Ls) ≡ At slot M n → Ended slots slot
+          → (searched t slots address (probes + 1) Ls ≡ At M n slot → Ended slots slot)
+          → found-or t (prefix address L) L (probes + 1) o (searched t slots address (probes + 1) Ls) ≡ At M n slot → Ended slots slot
       go (some s) h later found =
           let number : slot-number t (prefix address L) L s ≡ slot = cc in
           rw number at (held-ended (prefix address L) L s ready h)

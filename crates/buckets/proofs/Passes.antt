@@ -50,7 +50,7 @@ module _ {t : Settings} {slots : List ℕ} {p L : ℕ} where
   -- slot s, by what the code finds of it: whether it holds p
   module _ {vacancy : Vacancy} {s first : ℕ} {h : Bool} (met : Met t slots p L vacancy s) (below : s < t .s)
       (from : first ≡ slot-number t p L 0) (found : h ≡ holding slots (first + s) p) where
-    pub met-here : h ≡ true → At (first + s) L 1 ≡ bucket-place t slots p L
+    pub met-here : h ≡ true → At L 1 (first + s) ≡ bucket-place t slots p L
     unfolding bucket-place held
     met-here here =
         rw (lowest-here (holds t slots p L) _ _ below (met .none-holds) (holds-by t slots p L s first from h found ∙ here), counted t p L s first from)

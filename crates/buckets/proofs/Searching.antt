@@ -86,7 +86,7 @@ module _ {t : Settings} {slots : List ℕ} where
 
     -- this slot does
     pub here : {r : Bool} → s < t .s → r ≡ holding slots (turn .first + s) (turn .p) → r ≡ true
-        → At (turn .first + s) (turn .length) (probes + 1) ≡ search t slots address 0 (set-bits lengths)
+        → At (turn .length) (probes + 1) (turn .first + s) ≡ search t slots address 0 (set-bits lengths)
     unfolding held
     here {r} within ensured told =
         let test = holds-by t slots _ _ s _ (at .from) r ensured in

@@ -33,7 +33,7 @@ module _ {t : Settings} {slots : List ℕ} {address v : ℕ} {place : Place} (s 
       → answer ≡ place-answer t slots (length (set-bits v)) (searched t slots address 0 (set-bits v))
   by-place given = given ∙ ap (place-answer t slots (length (set-bits v))) (s .found)
 
-  module _ {slot L probes : ℕ} (at : place ≡ At slot L probes) where
+  module _ {slot L probes : ℕ} (at : place ≡ At L probes slot) where
     ended : Ended slots slot
     ended = search-ended t slots (s .sized) address 0 slot L probes (set-lengths t slots (s .sized) v (s .range)) (sym (s .found) ∙ at)
 

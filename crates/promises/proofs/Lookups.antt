@@ -63,7 +63,7 @@ module _ (t : Settings) (slots : List ℕ) (address : ℕ) (claimed : ℕ → Bo
   search-hits : (n k L s : ℕ) → 1 ≤ L → L ≤ n → held t slots (prefix address L) L ≡ some s → claimed L ≡ true
       → ((M : ℕ) → L < M → M ≤ n → Misses M)
       → search t slots address k (those claimed (down-from n))
-      ≡ At (slot-number t (prefix address L) L s) L (k + length (those (λ M. leb L M && claimed M) (down-from n)))
+      ≡ At L (k + length (those (λ M. leb L M && claimed M) (down-from n))) (slot-number t (prefix address L) L s)
   unfolding search those down-from
   search-hits zero k L s lo hi holds claims above = absurd (omega arith)
   search-hits (suc n) k L s lo hi holds claims above = go (le-suc-iff .0 hi) (λ j l. search-hits n j L s lo l holds claims (λ M a b. above M a (le-step b)))
@@ -72,17 +72,17 @@ module _ (t : Settings) (slots : List ℕ) (address : ℕ) (claimed : ℕ → Bo
       tail = length (those (λ M. leb L M && claimed M) (down-from n))
 
       deeper : (b : Bool) → claimed (suc n) ≡ b → L ≤ n
-          → ((j : ℕ) → search t slots address j (those claimed (down-from n)) ≡ At (slot-number t (prefix address L) L s) L (j + tail))
+          → ((j : ℕ) → search t slots address j (those claimed (down-from n)) ≡ At L (j + tail) (slot-number t (prefix address L) L s))
           → search t slots address k (cond b (suc n ∷ those claimed (down-from n)) (those claimed (down-from n)))
-          ≡ At (slot-number t (prefix address L) L s) L (k + length (cond (leb L (suc n) && b) (suc n ∷ those (λ M. leb L M && claimed M) (down-from n)) (those (λ M. leb L M && claimed M) (down-from n))))
+          ≡ At L (k + length (cond (leb L (suc n) && b) (suc n ∷ those (λ M. leb L M && claimed M) (down-from n)) (those (λ M. leb L M && claimed M) (down-from n)))) (slot-number t (prefix address L) L s)
       deeper true e l rest =
-          rw (above (suc n) (omega arith) (le-refl (suc n)), le-leb L (suc n) hi) (rest (k + 1) ∙ ap (At (slot-number t (prefix address L) L s) L) (omega arith))
+          rw (above (suc n) (omega arith) (le-refl (suc n)), le-leb L (suc n) hi) (rest (k + 1) ∙ ap (λ (probes : ℕ). At L probes (slot-number t (prefix address L) L s)) (omega arith))
       deeper false e l rest = rw (le-leb L (suc n) hi) (rest k)
 
       go : (L ≤ n) ⊎ (L ≡ suc n)
-          → ((j : ℕ) → L ≤ n → search t slots address j (those claimed (down-from n)) ≡ At (slot-number t (prefix address L) L s) L (j + tail))
+          → ((j : ℕ) → L ≤ n → search t slots address j (those claimed (down-from n)) ≡ At L (j + tail) (slot-number t (prefix address L) L s))
           → search t slots address k (cond (claimed (suc n)) (suc n ∷ those claimed (down-from n)) (those claimed (down-from n)))
-          ≡ At (slot-number t (prefix address L) L s) L (k + length (cond (leb L (suc n) && claimed (suc n)) (suc n ∷ those (λ M. leb L M && claimed M) (down-from n)) (those (λ M. leb L M && claimed M) (down-from n))))
+          ≡ At L (k + length (cond (leb L (suc n) && claimed (suc n)) (suc n ∷ those (λ M. leb L M && claimed M) (down-from n)) (those (λ M. leb L M && claimed M) (down-from n)))) (slot-number t (prefix address L) L s)
       go (inl l) rest = deeper (claimed (suc n)) refl l (λ j. rest j l)
       go (inr e) rest =
           let none-after = those-none (λ M. leb L M && claimed M) n (λ M low high. rw (lt-leb L M (omega arith))) in

@@ -101,7 +101,7 @@ refused-unchanged t (Change p L hop) m bad = rw (ne-eqb _ 0 bad)
 -- what a search's place answers carries no refusal
 place-accepted : (t : Settings) (slots : List ℕ) (ones : ℕ) (place : Place) → place-answer t slots ones place .refusal ≡ 0
 unfolding place-answer route-answer default-answer
-place-accepted t slots ones (At n L probes) = refl
+place-accepted t slots ones (At L probes n) = refl
 place-accepted t slots ones (Absent vacancy) = refl
 
 module _ (t : Settings) (m : Memory) (address : ℕ) where

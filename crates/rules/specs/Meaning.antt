@@ -23,7 +23,7 @@ bucket-place t slots p L = found-or t p L 1 (held t slots p L) (Absent (vacancy-
 -- what it means to an add: a place gets the new mark, and the counters stay; a free slot gets prefix and mark, and the
 -- counters go up, or 9 is given back; a full bucket gives 8
 unfoldable pub place-added : Settings → Memory → (p L hop : ℕ) → Place → Outcome
-place-added t m p L hop (At n M probes) = left 0 (m .counters) (with-slot (m .slots) n p (mark-of hop))
+place-added t m p L hop (At M probes n) = left 0 (m .counters) (with-slot (m .slots) n p (mark-of hop))
 place-added t m p L hop (Absent (Free n)) =
     unless-refused (refuse (passes-15 t (m .counters) p L) 9 0)
     (lent (step-each (λ n. n + 1) (m .counters) (counter-places t p L)) (with-slot (m .slots) n p (mark-of hop))) m
@@ -31,14 +31,14 @@ place-added t m p L hop (Absent Full) = left 8 (m .counters) (m .slots)
 
 -- to a withdrawal: a place gets two zeros, and the counters go down, or 10 is given back; absent gives 7
 unfoldable pub place-withdrawn : Settings → Memory → (p L : ℕ) → Place → Outcome
-place-withdrawn t m p L (At n M probes) =
+place-withdrawn t m p L (At M probes n) =
     unless-refused (refuse (runs-short t (m .counters) p L) 10 0)
     (lent (step-each (λ n. n - 1) (m .counters) (counter-places t p L)) (with-slot (m .slots) n 0 0)) m
 place-withdrawn t m p L (Absent vacancy) = left 7 (m .counters) (m .slots)
 
 -- to a change: a place gets the new mark; absent gives 7
 unfoldable pub place-changed : Memory → (p hop : ℕ) → Place → Outcome
-place-changed m p hop (At n M probes) = left 0 (m .counters) (with-slot (m .slots) n p (mark-of hop))
+place-changed m p hop (At M probes n) = left 0 (m .counters) (with-slot (m .slots) n p (mark-of hop))
 place-changed m p hop (Absent vacancy) = left 7 (m .counters) (m .slots)
 
 -- a withdrawal or change at length 0: the default's word gets another mark; 7 where the default is not stored

@@ -334,7 +334,7 @@ set-bits vector = those (bit-set vector) (down-from 32)
 
 -- the bucket at length L ends the search where it holds the prefix; else the search goes on
 abbrev pub found-or : Settings → (p L probes : ℕ) → Option ℕ → Place → Place
-found-or t p L probes (some s) after = At (slot-number t p L s) L probes
+found-or t p L probes (some s) after = At L probes (slot-number t p L s)
 found-or t p L probes none after = after
 
 -- the buckets of the address at these lengths are searched in order, each one probe more
@@ -361,7 +361,7 @@ default-answer mark probes =
 
 -- what a search's place answers: its slot's hop; where there is none the default, after as many probes as the vector has ones
 unfoldable pub place-answer : Settings → (slots : List ℕ) (ones : ℕ) → Place → Answer
-place-answer t slots ones (At n L probes) = route-answer (mark-at slots n) L probes
+place-answer t slots ones (At L probes n) = route-answer (mark-at slots n) L probes
 place-answer t slots ones (Absent vacancy) = default-answer (default-mark t slots) ones
 
 -- the answer that carries a refusal

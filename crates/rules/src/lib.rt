@@ -28,9 +28,9 @@ pub enum Vacancy {
 // searched; or nowhere.
 pub enum Place {
     At {
-        slot: usize,
         length: u32,
         probes: u32,
+        slot: usize,
     },
     Absent(Vacancy),
 }
