@@ -147,3 +147,13 @@ pub struct Lent {
     pub counters: usize,
     pub slots: usize,
 }
+
+/// What an import is lent beside its table and its chunk.
+#[derive(Clone, Debug, PartialEq, Eq)]
+pub struct Stream {
+    /// Routes accepted, routes refused, records with none.
+    pub counts: [u32; 3],
+    pub words: [u32; 3],
+    /// Always 65,548 bytes.
+    pub room: Vec<u8>,
+}

@@ -1,8 +1,9 @@
 //! Rules of the table got wrong on purpose, one at a time, so that a comparison can be seen to notice.
 //!
 //! Those named `Paper…` bend `Routes`, those named `List…` bend `answer_list`, those named `Message…` bend
-//! `read_message` and those named `Written…` bend `write_withdrawal`; all others bend `answer`, and a list or
-//! a message where it is done by single calls. Each name leaves the other sides right.
+//! `read_message`, those named `Written…` bend `write_withdrawal` and those named `Import…` or `Stream…` bend
+//! `import_chunk` and `end_stream`; all others bend `answer`, and a list, a message or an import where it is
+//! done by single calls. Each name leaves the other sides right.
 
 use super::calls::Call;
 
@@ -611,6 +612,82 @@ slips! {
     WrittenPrefixLowEnd: "written: the bytes of a prefix are its last octets",
     WrittenLengthLast: "written: the prefix length stands after its bytes",
     WrittenLengthInBytes: "written: the prefix length is in bytes, not bits",
+    // Imports: what is asked before any byte, and in which order.
+    StreamEndedAfter19: "stream: 19 is asked before the number that ended it is given",
+    StreamEndedLast: "stream: 19, 1 and 2 are asked before the number that ended it is given",
+    StreamGoesOnAfterEnd: "stream: a chunk after an end that gave 0 is read",
+    // Differs only where a caller lends a word 0 above 256.
+    StreamNumberLowByte: "stream: only the low byte of the number that ended it is given",
+    ImportTableBefore19: "import: 19 is asked after 1 and 2",
+    ImportChunkTo65535: "import: a chunk of 65,536 bytes gives 19",
+    ImportChunkUnasked: "import: a chunk of any length passes",
+    ImportCountEdge: "import: a count of 4,000,000,000 gives 19",
+    ImportCountFirstOnly: "import: only the count of accepted routes is asked for 19",
+    ImportEmptyUnasked: "import: 1 and 2 are not asked when the chunk has no bytes",
+    ImportRefusedEnds: "import: 19, 1 and 2 end it",
+    ImportCountsZeroed: "import: a new chunk begins with counts of zero",
+    // Imports: the words between chunks, as calls leave them and as any caller may lend them.
+    StreamHeaderAnew: "stream: a header split over chunks begins anew with the second one",
+    StreamEmptyUntidied: "stream: a chunk of no bytes leaves odd words as they are",
+    // The next two differ only for words that no call leaves: the kind in the room is another, or word 1 and
+    // word 2 are more than 65,548 together.
+    StreamRoomUnasked: "stream: a record with 12 bytes or more in the room is read, whatever its kind",
+    StreamSumUnasked: "stream: a record of any size is read, as far as the room reaches",
+    // Imports: the header.
+    ImportTypeUnasked: "import: subtype 2 of any type is read",
+    ImportSubtypeUnasked: "import: every subtype of type 13 is read",
+    ImportSizeInclusive: "import: a body's length counts the header",
+    // Differs only for bodies of 65,536 bytes or more.
+    ImportSizeLow16Bits: "import: only the low 16 bits of a body's length are read",
+    ImportLargeOtherKinds: "import: a body above 65,536 bytes gives 14 in a record of any kind",
+    ImportLargeFrom65536: "import: a body of 65,536 bytes gives 14",
+    ImportLargeStepped: "import: a body above 65,536 bytes is stepped over",
+    StreamEmptyBodyWaits: "stream: an empty body is waited for, and takes one byte",
+    StreamSkippedKept: "stream: a body that is stepped over is kept in the room, as far as it reaches",
+    // Imports: what 14 and 12 leave behind.
+    ImportEndingCounted: "import: the record that ends it counts as refused",
+    ImportEndingUndoes: "import: 14 and 12 undo and uncount what the chunk did before",
+    ImportFaultStepped: "import: a record that cannot be read is stepped over, and does not end it",
+    ImportFaultLate: "import: 12 for what comes after a hop leaves the route added and counted",
+    StreamFaultEarly: "stream: a prefix length above 32 gives 12 at once, before the rest of the body",
+    // Imports: the parts of a body.
+    ImportPrefixTo31: "import: a prefix of length 32 is refused as 12",
+    ImportLongPrefixCounted: "import: prefixes above length 32 pass, for the table to refuse",
+    ImportBitsKept: "import: bits after the length are kept, for the table to refuse",
+    ImportEntryOverrun: "import: attributes past the body's end are cut there",
+    ImportEntriesMissing: "import: fewer entries than said pass",
+    ImportBytesAfter: "import: bytes after the last entry pass",
+    ImportNoEntriesRefused: "import: a record without entries is refused as 12",
+    ImportStopsAtHop: "import: nothing is read after the entry that gives the hop",
+    ImportNextHopsAcross: "import: two NEXT_HOPs in two entries are refused as 12",
+    ImportNextHopAsked: "import: an entry without NEXT_HOP is refused as 12",
+    // Imports: the attributes of an entry.
+    // Differs only for an entry whose attributes have more than 4,096 bytes.
+    ImportAttributesTo4096: "import: attributes above 4,096 bytes are refused as 12",
+    ImportExtendedIgnored: "import: an attribute's length always has one byte",
+    ImportAttributeOverrun: "import: an attribute past the end of the attributes is left out",
+    ImportNextHopTwice: "import: of two NEXT_HOPs in an entry the first counts",
+    ImportNextHopSizeSkipped: "import: a NEXT_HOP not of four bytes is stepped over",
+    // Imports: which hop.
+    ImportLastHop: "import: the last entry whose NEXT_HOP is in the list gives the hop",
+    ImportFirstEntryOnly: "import: only the first entry is asked for the hop",
+    ImportHopHighest: "import: the highest place in the list counts",
+    // The next three differ only for lists of 65,536 places or more.
+    ImportHopTo65534: "import: place 65,535 gives no hop",
+    ImportHopUnbounded: "import: places above 65,535 pass, for the table to refuse",
+    ImportHighPlaceEnds: "import: no entry is asked after one whose NEXT_HOP stands above place 65,535",
+    // Imports: counts.
+    ImportNoneHopZero: "import: a record with none is added with hop 0",
+    ImportNoneUncounted: "import: records with none are not counted",
+    ImportNoneRefused: "import: records with none count as refused",
+    ImportRefusedUncounted: "import: refused routes are not counted",
+    // Imports: the end.
+    StreamSkippedEndPasses: "stream: an end inside a body that is stepped over gives 0",
+    StreamHeaderEndPasses: "stream: an end inside a header gives 0",
+    // Differs only for words that no call leaves.
+    StreamFullHeaderInside: "stream: an end gives 17 when word 1 is 12 or more and nothing is to come",
+    StreamEndAnew: "stream: an end after the end is judged anew",
+    StreamEndUnwritten: "stream: an end leaves the words as they were",
 }
 
 /// Two refusals that have changed places in the order; 0 and 0 when it is right.

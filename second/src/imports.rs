@@ -1,0 +1,367 @@
+//! A dump that comes in chunks: what C gets, and what table, counts, words and room hold after each call.
+//!
+//! Every byte is taken by itself. `records` says what stands in a body and which hop it gives. Each route is
+//! done by a single add of `rules`, which is also asked for refusals 1 and 2. Slips are told as there: the arm
+//! `_` and the first value of `or` are right.
+
+use super::calls::{Call, Lent, Settings, Stream};
+use super::records::{hop, read_with};
+use super::rules::answer;
+use super::slips::Slip;
+
+pub use super::records::{read_body, Recorded};
+
+/// What a refusal is multiplied by in the number that C gets.
+const REFUSAL: u64 = 1 << 48;
+
+/// How many bytes a header has.
+const HEADER: usize = 12;
+
+/// How many bytes a body may have that is read, and a chunk.
+const MOST: usize = 65_536;
+
+/// Takes one chunk, as it crosses from C, and gives its answer as one number.
+pub fn import_chunk(
+    t: &Settings,
+    counters: &mut [u8],
+    slots: &mut [u32],
+    lent: Lent,
+    hops: &[u32],
+    stream: &mut Stream,
+    chunk: &[u8],
+    slip: Option<Slip>,
+) -> u64 {
+    let mut import = Import { t, counters, slots, lent, hops, stream, slip };
+    let number = match import.before_all(chunk) {
+        Some(number) => import.refused(number),
+        None => import.take_all(chunk),
+    };
+    number as u64 * REFUSAL
+}
+
+/// Ends a stream, and gives its answer as one number.
+pub fn end_stream(words: &mut [u32; 3], slip: Option<Slip>) -> u64 {
+    let number = match ended(words, slip) {
+        Some(number) if slip != Some(Slip::StreamEndAnew) => number,
+        _ => end(words, slip),
+    };
+    number as u64 * REFUSAL
+}
+
+/// Ends a stream that goes on: 17 if it stands inside a record.
+fn end(words: &mut [u32; 3], slip: Option<Slip>) -> u32 {
+    let (in_header, in_body) = ((1..=11).contains(&words[1]), words[2] != 0);
+    let inside = match slip {
+        Some(Slip::StreamSkippedEndPasses) => in_header || in_body && words[1] >= 12,
+        Some(Slip::StreamHeaderEndPasses) => in_body,
+        Some(Slip::StreamFullHeaderInside) => words[1] != 0 || in_body,
+        _ => in_header || in_body,
+    };
+    let number = if inside { 17 } else { 0 };
+    if slip != Some(Slip::StreamEndUnwritten) {
+        *words = [number + 1, 0, 0];
+    }
+    number
+}
+
+/// The number that ended a stream, if it has ended.
+fn ended(words: &[u32; 3], slip: Option<Slip>) -> Option<u32> {
+    let number = words[0].checked_sub(1)?;
+    match slip {
+        Some(Slip::StreamNumberLowByte) => Some(number % 256),
+        _ => Some(number % 65_536),
+    }
+}
+
+/// A stream, with the table and the list of hops that it is for.
+struct Import<'a> {
+    t: &'a Settings,
+    counters: &'a mut [u8],
+    slots: &'a mut [u32],
+    lent: Lent,
+    hops: &'a [u32],
+    stream: &'a mut Stream,
+    slip: Option<Slip>,
+}
+
+// ---- Before any byte ----
+
+impl Import<'_> {
+    fn is(&self, slip: Slip) -> bool {
+        self.slip == Some(slip)
+    }
+
+    /// The right value, or the wrong one if the slip named is at work.
+    fn or<V>(&self, right: V, slip: Slip, wrong: V) -> V {
+        if self.is(slip) {
+            wrong
+        } else {
+            right
+        }
+    }
+
+    /// The number that a chunk gets before its bytes are looked at, if it gets one: that which ended the
+    /// stream, then 19, then 1 or 2.
+    fn before_all(&self, chunk: &[u8]) -> Option<u32> {
+        let of_end = match ended(&self.stream.words, self.slip) {
+            Some(0) if self.is(Slip::StreamGoesOnAfterEnd) => None,
+            of_end => of_end,
+        };
+        let too_much = if self.too_much(chunk) { Some(19) } else { None };
+        let of_table = self.table_refusal(chunk);
+        match self.slip {
+            Some(Slip::StreamEndedAfter19) => too_much.or(of_end).or(of_table),
+            Some(Slip::StreamEndedLast) => too_much.or(of_table).or(of_end),
+            Some(Slip::ImportTableBefore19) => of_end.or(of_table).or(too_much),
+            _ => of_end.or(too_much).or(of_table),
+        }
+    }
+
+    /// Whether the chunk is too long, or a count too high.
+    fn too_much(&self, chunk: &[u8]) -> bool {
+        let too_long = match self.slip {
+            Some(Slip::ImportChunkTo65535) => chunk.len() >= MOST,
+            Some(Slip::ImportChunkUnasked) => false,
+            _ => chunk.len() > MOST,
+        };
+        let above = self.or(4_000_000_000, Slip::ImportCountEdge, 3_999_999_999);
+        let asked = self.or(3, Slip::ImportCountFirstOnly, 1);
+        too_long || self.stream.counts[..asked].iter().any(|count| *count > above)
+    }
+
+    /// The number 1 or 2, if a single add gives it. No memory goes with this one, so it can change none.
+    fn table_refusal(&self, chunk: &[u8]) -> Option<u32> {
+        if chunk.is_empty() && self.is(Slip::ImportEmptyUnasked) {
+            return None;
+        }
+        let call = Call::Add { prefix: 0, length: 0, hop: 0 };
+        match answer(self.t, &mut [], &mut [], self.lent, call, self.rules_slip()) / REFUSAL {
+            // Only a slip gives 18.
+            number @ (1 | 2 | 18) => Some(number as u32),
+            _ => None,
+        }
+    }
+
+    /// The slip for a single add, but none of its 64-bit number: no such number crosses here.
+    fn rules_slip(&self) -> Option<Slip> {
+        self.slip.filter(|slip| *slip != Slip::RefusalAt40)
+    }
+
+    /// Gives a number back; nothing is written, but by a slip.
+    fn refused(&mut self, number: u32) -> u32 {
+        if self.is(Slip::ImportRefusedEnds) && self.stream.words[0] == 0 {
+            self.stream.words = [number + 1, 0, 0];
+        }
+        number
+    }
+}
+
+// ---- Byte by byte ----
+
+/// Where a stream that goes on stands.
+#[derive(Clone, Copy)]
+enum Place {
+    /// So many bytes of a header have been read.
+    Header(usize),
+    /// In the body of a record that is read: so many of its bytes stand in the room, so many are to come.
+    Read(usize, u32),
+    /// In a body that is stepped over: so many bytes are to come.
+    SteppedOver(u32),
+}
+
+impl Place {
+    /// The words that say so.
+    fn words(self) -> [u32; 3] {
+        match self {
+            Place::Header(read) => [0, read as u32, 0],
+            Place::Read(read, left) => [0, read as u32, left],
+            Place::SteppedOver(left) => [0, 0, left],
+        }
+    }
+}
+
+impl Import<'_> {
+    /// Takes the bytes of a chunk, up to one that ends the import; gives the number that ended it, or 0.
+    fn take_all(&mut self, chunk: &[u8]) -> u32 {
+        if chunk.is_empty() && self.is(Slip::StreamEmptyUntidied) {
+            return 0;
+        }
+        if self.is(Slip::ImportCountsZeroed) {
+            self.stream.counts = [0; 3];
+        }
+        let undoes = self.is(Slip::ImportEndingUndoes);
+        let before = undoes.then(|| (self.counters.to_vec(), self.slots.to_vec(), self.stream.counts));
+        let mut place = self.place();
+        for byte in chunk {
+            place = match self.take(place, *byte) {
+                Ok(next) => next,
+                Err(number) => {
+                    if let Some((counters, slots, counts)) = before {
+                        self.counters.copy_from_slice(&counters);
+                        self.slots.copy_from_slice(&slots);
+                        self.stream.counts = counts;
+                    }
+                    self.stream.words = [number + 1, 0, 0];
+                    return number;
+                }
+            };
+        }
+        self.stream.words = place.words();
+        0
+    }
+
+    /// What the words mean, of a stream that goes on.
+    fn place(&self) -> Place {
+        let [_, read, left] = self.stream.words;
+        let (room, taken) = (read as usize, read as usize + left as usize);
+        if left == 0 {
+            let begun = if room < HEADER { room } else { 0 };
+            return Place::Header(self.or(begun, Slip::StreamHeaderAnew, 0));
+        }
+        let fits = taken <= HEADER + MOST || self.is(Slip::StreamSumUnasked);
+        let of_kind = self.of_kind() || self.is(Slip::StreamRoomUnasked);
+        if room >= HEADER && fits && of_kind {
+            Place::Read(room, left)
+        } else {
+            Place::SteppedOver(left)
+        }
+    }
+
+    /// Takes one byte; gives where the stream then stands, or the number that ends it.
+    fn take(&mut self, place: Place, byte: u8) -> Result<Place, u32> {
+        match place {
+            Place::Header(read) => {
+                self.keep(read, byte);
+                if read + 1 < HEADER {
+                    return Ok(Place::Header(read + 1));
+                }
+                self.header()
+            }
+            Place::Read(read, left) => {
+                self.keep(read, byte);
+                if read == HEADER + 4 && byte > 32 && self.is(Slip::StreamFaultEarly) {
+                    return Err(12);
+                }
+                if left > 1 {
+                    return Ok(Place::Read(read + 1, left - 1));
+                }
+                self.body(read + 1)
+            }
+            Place::SteppedOver(left) => {
+                if self.is(Slip::StreamSkippedKept) {
+                    self.keep(HEADER + self.size().wrapping_sub(left) as usize, byte);
+                }
+                Ok(if left > 1 { Place::SteppedOver(left - 1) } else { Place::Header(0) })
+            }
+        }
+    }
+
+    /// Writes a byte into the room. Only slips ask for a place behind it.
+    fn keep(&mut self, at: usize, byte: u8) {
+        if let Some(place) = self.stream.room.get_mut(at) {
+            *place = byte;
+        }
+    }
+}
+
+// ---- A header ----
+
+impl Import<'_> {
+    /// The number in some bytes of the header in the room, the first one highest.
+    fn number(&self, from: usize, size: usize) -> u32 {
+        self.stream.room[from..from + size].iter().fold(0, |number, byte| number * 256 + *byte as u32)
+    }
+
+    /// Whether the header in the room is that of a RIB_IPV4_UNICAST record of TABLE_DUMP_V2.
+    fn of_kind(&self) -> bool {
+        let (kind, subkind) = (self.number(4, 2), self.number(6, 2));
+        match self.slip {
+            Some(Slip::ImportTypeUnasked) => subkind == 2,
+            Some(Slip::ImportSubtypeUnasked) => kind == 13,
+            _ => kind == 13 && subkind == 2,
+        }
+    }
+
+    /// How many bytes the body has, by the header in the room.
+    fn size(&self) -> u32 {
+        let field = self.number(8, 4);
+        match self.slip {
+            Some(Slip::ImportSizeInclusive) => field.saturating_sub(12),
+            Some(Slip::ImportSizeLow16Bits) => field % 65_536,
+            Some(Slip::StreamEmptyBodyWaits) => field.max(1),
+            _ => field,
+        }
+    }
+
+    /// Goes on from a whole header to its body, or past it if that is empty.
+    fn header(&mut self) -> Result<Place, u32> {
+        let (of_kind, size) = (self.of_kind(), self.size());
+        let most = self.or(MOST, Slip::ImportLargeFrom65536, MOST - 1);
+        let large = size as usize > most;
+        if large && (of_kind || self.is(Slip::ImportLargeOtherKinds)) {
+            if self.is(Slip::ImportLargeStepped) {
+                return Ok(Place::SteppedOver(size));
+            }
+            self.ends(14)?;
+        }
+        match (of_kind, size) {
+            (true, 0) => self.body(HEADER),
+            (true, _) => Ok(Place::Read(HEADER, size)),
+            (false, 0) => Ok(Place::Header(0)),
+            (false, _) => Ok(Place::SteppedOver(size)),
+        }
+    }
+
+    /// Ends the import with a number; nothing of this record is counted, but by a slip.
+    fn ends(&mut self, number: u32) -> Result<(), u32> {
+        if self.is(Slip::ImportEndingCounted) {
+            self.count(1);
+        }
+        Err(number)
+    }
+}
+
+// ---- A body ----
+
+impl Import<'_> {
+    /// Does the record of which so many bytes stand in the room; the next header follows.
+    fn body(&mut self, read: usize) -> Result<Place, u32> {
+        let body = self.stream.room[HEADER..read.min(HEADER + MOST)].to_vec();
+        match (self.slip, read_with(&body, self.hops, self.slip)) {
+            (_, Ok(said)) => self.add(said),
+            (Some(Slip::ImportFaultStepped), _) => (),
+            (Some(Slip::ImportFaultLate), _) => {
+                if let Ok(said) = read_with(&body, self.hops, Some(Slip::ImportStopsAtHop)) {
+                    self.add(said);
+                }
+                self.ends(12)?;
+            }
+            _ => self.ends(12)?,
+        }
+        Ok(Place::Header(0))
+    }
+
+    /// Adds the route of a record, if it has a hop, and counts the record.
+    fn add(&mut self, said: Recorded) {
+        let Recorded { prefix, length, next_hops } = said;
+        let Some(hop) = hop(self.hops, &next_hops, self.slip) else {
+            return match self.slip {
+                Some(Slip::ImportNoneUncounted) => (),
+                Some(Slip::ImportNoneRefused) => self.count(1),
+                _ => self.count(2),
+            };
+        };
+        let call = Call::Add { prefix, length, hop };
+        let slip = self.rules_slip();
+        match answer(self.t, self.counters, self.slots, self.lent, call, slip) {
+            0 => self.count(0),
+            _ if self.is(Slip::ImportRefusedUncounted) => (),
+            _ => self.count(1),
+        }
+    }
+
+    /// One more in a count. Only a slip lets it pass the top.
+    fn count(&mut self, which: usize) {
+        self.stream.counts[which] = self.stream.counts[which].wrapping_add(1);
+    }
+}
