@@ -1,6 +1,7 @@
 -- The laws that other crates cite, and the worked cases.
 pub mod Answers
 pub mod Calls
+pub mod Cuts
 pub mod Equal
 pub mod Levels
 pub mod Lists

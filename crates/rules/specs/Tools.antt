@@ -1,7 +1,7 @@
 -- Small tools in which the rules are written; none of them knows of routes.
 use Prim.Native.Nat.{ℕ, zero, suc, _+_}
 use mathlib.Core.Bool.{Bool, true, false, cond, _&&_, _||_}
-use mathlib.Core.List.{List, [], _∷_}
+use mathlib.Core.List.{List, [], _∷_, _++_}
 use mathlib.Core.Option.{Option, some, none}
 use lib.Dec.{leb, eqb}
 
@@ -38,3 +38,13 @@ or-else none other = other
 unfoldable pub lowest : (ℕ → Bool) → ℕ → Option ℕ
 lowest test zero = none
 lowest test (suc n) = or-else (lowest test n) (cond (test n) (some n) none)
+
+-- the numbers of a list taken one after the other, each by what the one before it has left
+unfoldable pub fed : {S : Type 0} → (next : S → ℕ → S) → S → List ℕ → S
+fed next s [] = s
+fed next s (x ∷ xs) = fed next (next s x) xs
+
+-- the input of which these are the chunks
+unfoldable pub input-of : (chunks : List (List ℕ)) → List ℕ
+input-of [] = []
+input-of (chunk ∷ chunks) = chunk ++ input-of chunks

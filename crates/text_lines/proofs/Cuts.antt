@@ -6,9 +6,10 @@ use mathlib.Core.List.{List, [], _∷_, _++_}
 use lib.ListN.{length}
 use lib.Dec.{lit≤}
 use borrow.Author.Tests.{le-leb}
+use Rattle.rules.specs.Tools.{input-of}
 use Rattle.rules.specs.declared.Settings.{Settings}
 use Rattle.rules.specs.Table.{Memory}
-use Rattle.text_lines.specs.Lines.{lines, lines-text, Stream, going, feed, stream-text, input-of, roomy}
+use Rattle.text_lines.specs.Lines.{lines, lines-text, Stream, going, feed, stream-text, roomy}
 use Rattle.text_lines.proofs.Owed.{Keeps, owed, owed-last, unfinished, keeps-chunk, owed-chunk}
 
 -- a stream begins with nothing kept

@@ -11,6 +11,7 @@ use lib.ListN.{length, take, set, length-append, length-take, length-set}
 use lib.Seq.{take-all, take-suc-set, take-append-le, length-take-le}
 use lib.Dec.{ltb, eqb}
 use borrow.Author.Tests.{eq-eqb, ne-eqb, lt-ltb, ltb-true, ltb-false, eqb-true, eqb-false}
+use Rattle.rules.specs.Tools.{fed}
 use Rattle.rules.specs.declared.Settings.{Settings}
 use Rattle.rules.specs.Table.{Memory}
 use Rattle.text_requests.specs.declared.Request.the-variants.{Unreadable}
@@ -129,12 +130,12 @@ unfinished [] begun = begun
 unfinished (b ∷ chunk) begun = unfinished chunk (begun-with b begun)
 
 pub keeps-chunk : (t : Settings) (chunk : List ℕ) {begun : List ℕ} {s : Stream} → Keeps begun s → Keeps (unfinished chunk begun) (feed t s chunk)
-unfolding feed
+unfolding feed fed
 keeps-chunk t [] k = k
 keeps-chunk t (b ∷ chunk) k = keeps-chunk t chunk (keeps-next k t b)
 
 -- a chunk leaves what is owed as it is
 pub owed-chunk : (t : Settings) (chunk input : List ℕ) {begun : List ℕ} {s : Stream} → Keeps begun s → owed t (feed t s chunk) (unfinished chunk begun) input ≡ owed t s begun (chunk ++ input)
-unfolding feed
+unfolding feed fed
 owed-chunk t [] input k = refl
 owed-chunk t (b ∷ chunk) input k = owed-chunk t chunk input (keeps-next k t b) ∙ owed-next k t b (chunk ++ input)

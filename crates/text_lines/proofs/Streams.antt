@@ -2,27 +2,23 @@
 use Prim.Native.Nat.{ℕ, _+_, _*_, _≤_, _<_}
 use mathlib.Core.Path.{_≡_, refl}
 use mathlib.Core.Bool.{Bool, false}
-use mathlib.Core.List.{List, [], _∷_, _++_}
+use mathlib.Core.List.{List}
 use native.Mathlib.Omega.{arith}
 use native.Mathlib.Numerals.{add-one}
 use lib.ListN.{length, getD, take, set}
 use lib.Seq.{take-suc}
 use borrow.Author.Tests.{eq-eqb, ne-eqb, lt-ltb, le-ltb}
+use Rattle.rules.specs.Tools.{fed}
 use Rattle.rules.specs.declared.Settings.{Settings}
 use Rattle.rules.specs.Table.{Memory, lent}
+use Rattle.rules.proofs.Cuts.{fed-append}
 use Rattle.text_answers.proofs.Puts.{put-both}
 use Rattle.text_lines.specs.Lines.{line-reply, Stream, going, keep, end-line, take-byte, feed, not-refused, Replied, Lies}
 
--- a chunk after a chunk is one longer chunk
-pub feed-both : (t : Settings) (s : Stream) (a b : List ℕ) → feed t s (a ++ b) ≡ feed t (feed t s a) b
-unfolding feed
-feed-both t s [] b = refl
-feed-both t s (x ∷ a) b = feed-both t (take-byte t s x) a b
-
 -- one byte more of a chunk
 pub feed-more : (t : Settings) (s : Stream) (chunk : List ℕ) (i : ℕ) → i < length chunk → feed t s (take (i + 1) chunk) ≡ take-byte t (feed t s (take i chunk)) (getD chunk i 0)
-unfolding feed
-feed-more t s chunk i h = rw (add-one, take-suc chunk i 0 h, feed-both)
+unfolding feed fed
+feed-more t s chunk i h = rw (add-one, take-suc chunk i 0 h, fed-append (take-byte t))
 
 -- a call that takes nothing, refused or not, leaves the stream as it was handed over
 pub lies-going : (refused : Bool) (m : Memory) (line out : List ℕ) (kept : ℕ) → Lies (record { refused = refused; leaves = going m line kept }) m line out out (record { refused = refused; count = kept; written = 0 })

@@ -5,6 +5,7 @@ use mathlib.Core.Bool.{Bool, false, cond, not, _&&_}
 use mathlib.Core.List.{List, [], _∷_, _++_}
 use lib.ListN.{length, take, set}
 use lib.Dec.{ltb, leb, eqb}
+use Rattle.rules.specs.Tools.{fed}
 use Rattle.rules.specs.declared.Settings.{Settings}
 use Rattle.rules.specs.Table.{Memory, Outcome, add, withdraw, change, lookup}
 use Rattle.text_requests.specs.declared.Request.{Request}
@@ -87,8 +88,7 @@ take-byte t s b = cond (eqb b 10) (end-line t s) (keep b s)
 
 -- a chunk is taken byte by byte
 unfoldable pub feed : Settings → Stream → (chunk : List ℕ) → Stream
-feed t s [] = s
-feed t s (b ∷ chunk) = feed t (take-byte t s b) chunk
+feed t = fed (take-byte t)
 
 -- the input ends: what is kept is the last line, unless it is nothing
 unfoldable pub finish : Settings → Stream → Stream
@@ -100,11 +100,6 @@ stream-text t s [] = finish t s .text
 stream-text t s (chunk ∷ chunks) =
     let s′ = feed t s chunk in
     s′ .text ++ stream-text t (going (s′ .memory) (s′ .line) (s′ .count)) chunks
-
--- the input of which these are the chunks
-unfoldable pub input-of : (chunks : List (List ℕ)) → List ℕ
-input-of [] = []
-input-of (chunk ∷ chunks) = chunk ++ input-of chunks
 
 -- ---- The calls, which are refused for want of room
 

@@ -8,16 +8,17 @@ use native.Mathlib.Omega.{arith}
 use lib.Dec.{lit≤}
 use lib.ListN.{replicate}
 use lib.Seq.{sets}
+use Rattle.rules.specs.Tools.{fed, input-of}
 use Rattle.rules.specs.declared.Settings.{Settings}
 use Rattle.rules.specs.Table.{Memory, lent}
 use Rattle.rules.specs.Calls.{Call, Clear, Add, Withdraw, word-sized, act}
 use Rattle.rules.proofs.Worked.{ip, T}
 use Rattle.text_spelling.specs.Spelling.{spelled}
 use Rattle.text_answers.specs.Texts.{update-text, route-text, none-text, lookup-text, unreadable}
-use Rattle.text_lines.specs.Lines.{updated, reply, line-reply, lines, input-of, keep, end-line, take-byte, feed, finish, roomy, feed-chunk, finish-input}
+use Rattle.text_lines.specs.Lines.{updated, reply, line-reply, lines, keep, end-line, take-byte, feed, finish, roomy, feed-chunk, finish-input}
 use Rattle.promises.specs.History.{Route, stored-by, SingleCalls, History, Ran, Stop, Then}
 use Rattle.promises.specs.Demands.{Longest, probes-down-to, number-given}
-use Rattle.promises.proofs.Agree.{sevens}
+use Rattle.promises.proofs.Showing.{sevens}
 use Rattle.promises.proofs.Paper.{route}
 use Rattle.promises.proofs.Matches.{right}
 use Rattle.promises.proofs.Histories.{one-made}
@@ -116,7 +117,7 @@ module _ {t : Settings} {before : Memory} (worked : Worked t before) where
 
 -- to unfold this is to unfold what a stream computes with
 unfoldable streaming : ℕ
-unfolding all-computing feed-chunk finish-input roomy feed take-byte keep finish end-line
+unfolding all-computing feed-chunk finish-input roomy feed fed take-byte keep finish end-line
 streaming = 0
 
 -- the byte x is fed and the input ends: what is passed on is the answer to that one line

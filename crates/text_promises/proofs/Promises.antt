@@ -9,6 +9,7 @@ use mathlib.Core.Option.{Option, some, none}
 use mathlib.Core.Logic.{_↔_}
 use lib.ListN.{length, replicate}
 use lib.Dec.{lit≤}
+use Rattle.rules.specs.Tools.{input-of}
 use Rattle.rules.specs.declared.Settings.{Settings}
 use Rattle.rules.specs.declared.Answer.{Answer}
 use Rattle.rules.specs.Table.{Memory, lent, lookup}
@@ -21,7 +22,7 @@ use Rattle.text_requests.specs.declared.Request.the-variants.{Add, Drop, Move, 
 use Rattle.text_requests.specs.Shapes.{request}
 use Rattle.text_requests.proofs.Words.{request-words}
 use Rattle.text_answers.specs.Texts.{update-text, route-text, none-text, lookup-text, unreadable}
-use Rattle.text_lines.specs.Lines.{updated, reply, line-reply, lines, lines-text, going, stream-text, input-of}
+use Rattle.text_lines.specs.Lines.{updated, reply, line-reply, lines, lines-text, going, stream-text}
 use Rattle.text_lines.proofs.Cuts.{begins, one-by-one}
 use Rattle.promises.specs.History.{Route, without, written, noted, on-paper, stored-by, SingleCalls, History, Ran}
 use Rattle.promises.specs.Demands.{Stored, matches, Longest, NoMatch, Finds, number-given, paper, probes-down-to, longest}

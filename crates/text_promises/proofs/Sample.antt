@@ -12,7 +12,7 @@ use Rattle.text_lines.specs.Lines.{lines-after, lines}
 use Rattle.rules.specs.Calls.{each}
 use Rattle.promises.specs.History.{about, without, with-hop, written, noted}
 use Rattle.promises.specs.Demands.{paper}
-use Rattle.promises.proofs.Agree.{showing}
+use Rattle.promises.proofs.Showing.{showing}
 use Rattle.text_promises.specs.Paper.{calls-of, find-text, text-by, paper-answers}
 
 -- to unfold this is to unfold all that the paper computes with

@@ -6,6 +6,7 @@ use native.Mathlib.Omega.{arith}
 use borrow.Author.Needs.{needs}
 use lib.ListN.{length, length-set}
 use lib.Seq.{length-take-le, take-length}
+use Rattle.rules.specs.Tools.{fed}
 use Rattle.text_lines.specs.Lines.{feed}
 use Rattle.text_lines.proofs.Streams.{Turn, feed-more, lies-going, lies-ended, lies-kept, lies-left-out}
 use Rattle.text_lines.proofs.feed_into.Statement.{statement}
@@ -20,7 +21,7 @@ abbrev μ-loop : tie.MeasureT-loop
     length chunk - i
 
 loop-holds : tie.Need-loop-holds Inv-loop μ-loop
-unfolding feed
+unfolding feed fed
 loop-holds c =
     let a = c .before .before .before .before .before in
     record {
