@@ -15,7 +15,7 @@ use Rattle.message_format.specs.Writing.{write-withdrawal}
 use Rattle.message_format.proofs.Worked.{computing as reading}
 use Rattle.promises.specs.History.{Route, on-paper, stored-by, History}
 use Rattle.promises.specs.Demands.{some-below, every-below, outside, Finds, First, Nothing, paper, adds}
-use Rattle.promises.proofs.Agree.{sevens, showing}
+use Rattle.promises.proofs.Showing.{sevens, showing}
 use Rattle.promises.proofs.Paper.{route}
 use Rattle.promises.proofs.Matches.{right}
 use Rattle.promises.proofs.Premises.{U}

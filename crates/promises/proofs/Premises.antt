@@ -15,7 +15,7 @@ use Rattle.rules.specs.Calls.{Call, Clear, Add, Withdraw, Change, word-sized, a
 use Rattle.rules.proofs.Worked.{ip, T}
 use Rattle.promises.specs.History.{Route, stored-by, History}
 use Rattle.promises.specs.Demands.{Finds, Reordered, Swapped, Longest, adds}
-use Rattle.promises.proofs.Agree.{sevens, showing}
+use Rattle.promises.proofs.Showing.{sevens, showing}
 use Rattle.promises.proofs.Paper.{route}
 use Rattle.promises.proofs.Matches.{right}
 use Rattle.promises.proofs.Histories.{made, history-of}

@@ -1,5 +1,4 @@
 -- Histories of calls, the routes that a reader of the calls and their answers keeps on paper, the words of the demands
--- over such routes, and what any program for the table must promise.
+-- over such routes.
 pub mod History
 pub mod Demands
-pub mod Programs

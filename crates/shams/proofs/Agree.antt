@@ -8,18 +8,13 @@ use lib.Dec.{eqb}
 use lib.ListN.{replicate}
 use Rattle.rules.specs.declared.Settings.{Settings}
 use Rattle.rules.specs.declared.Answer.{Answer}
-use Rattle.rules.specs.Tools.{those}
-use Rattle.rules.specs.Table.{Memory, claims, bits-where, vector-of, down-from, bit-set, set-bits, search as searched, route-answer, default-answer, place-answer, refused, answer-of, lookup, one-if}
-use Rattle.rules.proofs.Worked.{ip, T, computing as rules-computing}
-use Rattle.rules.specs.Calls.{Call, Add, Withdraw, word-sized, all-word-sized, act, each, run}
-use Rattle.promises.specs.History.{about, without, with-hop, written, noted, on-paper, stored-by}
-use Rattle.promises.specs.Demands.{number-given, needs-place, add-number, withdraw-number, change-number, exists, sum, number, crowded, beside, landings, overflows, matches, marks, covered, probes-down-to, longest, longer}
-use Rattle.promises.specs.Programs.{Acting, Asking, run-by, history-by, our-calls, our-lookups}
+use Rattle.rules.proofs.Worked.{ip, T}
+use Rattle.rules.specs.Calls.{Call, Add, Withdraw}
+use Rattle.promises.specs.History.{stored-by}
+use Rattle.promises.specs.Demands.{number-given, longest}
 use Rattle.promises.proofs.Matches.{answer-by}
-
--- lent memory that held sevens, of the sizes of T and of Z
-abbrev pub sevens : Memory
-sevens = record { counters = replicate 512 7; slots = replicate 257 7 }
+use Rattle.promises.proofs.Showing.{sevens, showing}
+use Rattle.shams.specs.Programs.{Acting, Asking, run-by, history-by, our-calls, our-lookups}
 
 -- K 5, D 4, E 0, S 4 and multipliers 0: every route of length 32 lands five times on one counter
 abbrev pub Z : Settings
@@ -72,15 +67,10 @@ three = Add 1 32 1 ∷ Add 2 32 1 ∷ Add 3 32 1 ∷ []
 unfoldable pub four-then-one : List Call
 four-then-one = three ++ Add 4 32 1 ∷ Withdraw 1 32 ∷ Withdraw 2 32 ∷ Withdraw 3 32 ∷ []
 
--- to unfold this is to unfold all that a history computes with
-unfoldable pub computing : ℕ
-unfolding rules-computing act each run run-by history-by about without with-hop written noted on-paper stored-by
-computing = 0
-
--- and this, all that is due and all that a lookup computes with
-unfoldable pub showing : ℕ
-unfolding right-number right-answer same-answers add-8 add-16 pair again three four-then-one word-sized all-word-sized number-given needs-place add-number withdraw-number change-number exists sum number crowded beside landings overflows matches marks covered probes-down-to longest longer answer-by our-calls our-lookups lookup answer-of refused place-answer route-answer default-answer searched set-bits bit-set vector-of bits-where claims down-from those one-if computing
-showing = 0
+-- to unfold this is to unfold all that is due, and all that a program computes with
+unfoldable pub agreeing : ℕ
+unfolding right-number right-answer same-answers add-8 add-16 pair again three four-then-one run-by history-by our-calls our-lookups showing
+agreeing = 0
 
 -- ---- Ours
 
@@ -104,7 +94,7 @@ numbers-agree :
     ∷ right-number T our-calls (again ++ Withdraw (ip 10 0 0 0) 8 ∷ []) (Withdraw (ip 10 0 0 0) 8)
     ∷ []
     ) ≡ true
-unfolding every showing
+unfolding every agreeing
 numbers-agree = refl
 
 -- as finds-longest, says-none and probes-counted say
@@ -119,5 +109,5 @@ answers-agree :
     ∷ right-answer Z our-calls our-lookups four-then-one 4
     ∷ []
     ) ≡ true
-unfolding every showing
+unfolding every agreeing
 answers-agree = refl

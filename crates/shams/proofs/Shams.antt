@@ -15,14 +15,15 @@ use Rattle.rules.specs.Tools.{any, those}
 use Rattle.rules.specs.Table.{Memory, Outcome, lent, left, default-word, default-mark, mark-of, slot-number, counter-places, vacant, stored, from-1, full, with-slot, with-found, unless-refused, step-each, added, clear, add, withdraw, change, hits, vector-of, down-from, set-bits, search as searched, default-answer, place-answer, lookup, one-if}
 use Rattle.rules.proofs.Members.{both}
 use Rattle.rules.specs.Calls.{Call, Clear, Add, Withdraw, Change, word-sized, all-word-sized, act, run}
 use Rattle.promises.specs.History.{Route}
 use Rattle.promises.specs.Demands.{probes-down-to, longest}
-use Rattle.promises.specs.Programs.{Acting, Asking, run-by, history-by, Promised, Honest, our-calls, our-lookups, with-clear, with-add, with-withdraw, with-change, with-probes}
+use Rattle.shams.specs.Programs.{Acting, Asking, run-by, history-by, Promised, Honest, our-calls, our-lookups, with-clear, with-add, with-withdraw, with-change, with-probes}
 use Rattle.promises.proofs.Matches.{answer-by, Right, right}
 use Rattle.rules.proofs.Worked.{ip, T}
-use Rattle.promises.proofs.Agree.{sevens, Z, right-number, same-answers, right-answer, add-8, add-16, pair, again, four-then-one, showing}
+use Rattle.promises.proofs.Showing.{sevens}
+use Rattle.shams.proofs.Agree.{Z, right-number, same-answers, right-answer, add-8, add-16, pair, again, four-then-one, agreeing}
 use Rattle.promises.proofs.Histories.{made, history-of}
 use Rattle.promises.proofs.Promises as promise
 
 -- The calls of the rules are not among them: they keep the promises.
 pub honest : Honest our-calls our-lookups
@@ -102,7 +103,7 @@ with-slots u slots = left (u .refusal) (u .memory .counters) slots
 
 -- to unfold this is to unfold all that one is shown up by
 shown : ℕ
-unfolding wrong-number wrong-answer begun showing
+unfolding wrong-number wrong-answer begun agreeing
 shown = 0
 
 -- ---- The shams of the rules
