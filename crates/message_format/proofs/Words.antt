@@ -41,7 +41,7 @@ module _ (bytes : List ℕ) (small : areBytes bytes ≡ true) where
       go false = omega arith
 
   -- a prefix that is read from bytes is below 2^32
-  prefix-small : (at : ℕ) → prefix-from bytes at .prefix < 2 ^ 32
+  pub prefix-small : (at : ℕ) → prefix-from bytes at .prefix < 2 ^ 32
   unfolding prefix-from address-at from-octets
   prefix-small at =
       let L = byte bytes at in

@@ -1,0 +1,2 @@
+-- What taking bytes up to the next complete record gives.
+pub mod Runs
