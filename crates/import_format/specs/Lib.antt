@@ -1,0 +1,3 @@
+-- What a record of a dump says, and what an import does.
+pub mod Routes
+pub mod Importing

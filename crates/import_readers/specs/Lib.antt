@@ -1,0 +1,2 @@
+-- What reading a record of a dump gives.
+pub mod Records
