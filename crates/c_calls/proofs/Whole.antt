@@ -1,15 +1,17 @@
--- A list of D of another count and the 32 zeros that stand for it are both out of range, so every call refuses either as 1
--- and leaves all that is lent as it was.
+-- A list of D of another count and the 32 zeros that stand for it are both out of range, so every call gives either the same
+-- number and leaves all that is lent as it was.
 use Prim.Native.Nat.{ℕ}
 use mathlib.Core.Path.{_≡_, refl, sym, _∙_}
-use mathlib.Core.Bool.{Bool, true, false, cond, and-false, true≢false}
+use mathlib.Core.Bool.{Bool, true, false, cond, _||_, and-false, true≢false}
 use mathlib.Core.List.{List}
-use lib.Dec.{eqb}
+use lib.Dec.{ltb, eqb}
 use lib.ListN.{length, replicate}
 use Rattle.rules.specs.declared.Settings.{Settings}
 use Rattle.rules.specs.Tools.{within, all}
 use Rattle.rules.specs.Table.{list-in-range, in-range, Memory, refuse, memory-refusal, route-refusal, add-refusal, withdraw-refusal, change-refusal, unless-refused, clear, add, withdraw, change, match-vector, vector-number, c-match-vector, refused, lookup, answer-number, c-lookup, answered, listed, list-refusal, c-list-refusal, c-lookup-list}
 use Rattle.message_format.specs.Reading.{message-refusal, refused-message, apply-message}
+use Rattle.stream_format.specs.Kept.{is-ended, ended-number}
+use Rattle.import_format.specs.Importing.{counts-of, counts-high, chunk-refusal, as-it-was, import-chunk}
 use Rattle.c_calls.specs.Lent.{settings-of, whole}
 
 outside : (t : Settings) → list-in-range (t .d) ≡ false → in-range t ≡ false
@@ -37,6 +39,12 @@ lent-list t d made range = go (eqb (length d) 32) made
 is-1 : (t : Settings) → in-range t ≡ false → (m : Memory) (after : ℕ) → memory-refusal t m after ≡ 1
 unfolding memory-refusal refuse
 is-1 t out m after = rw out
+
+-- with a check of another number before it, it is refused too
+refused-after : (bad : Bool) → eqb (refuse bad 19 1) 0 ≡ false
+unfolding refuse
+refused-after true = refl
+refused-after false = refl
 
 -- what settings t give, made of a lent list, is what the list gives
 module _ {t : Settings} {k e s a b c : ℕ} (d : List ℕ) (made : t ≡ settings-of k (whole d) e s a b c) where
@@ -67,6 +75,15 @@ module _ {t : Settings} {k e s a b c : ℕ} (d : List ℕ) (made : t ≡ setting
   pub message-alike : (m : Memory) (message hops : List ℕ) → apply-message (settings-of k d e s a b c) m message hops ≡ apply-message t m message hops
   unfolding apply-message message-refusal
   message-alike m message hops = alike (λ u. apply-message u m message hops) (refused-message 1 m) (λ u out. rw (is-1 u out))
+
+  pub import-alike : (m : Memory) (hops counts words room chunk : List ℕ)
+      → import-chunk (settings-of k d e s a b c) m hops counts words room chunk ≡ import-chunk t m hops counts words room chunk
+  unfolding import-chunk chunk-refusal
+  import-alike m hops counts words room chunk =
+      let bad = ltb 65536 (length chunk) || counts-high (counts-of counts) in
+      alike (λ u. import-chunk u m hops counts words room chunk)
+      (cond (is-ended words) (as-it-was (ended-number words) m counts words room) (as-it-was (refuse bad 19 1) m counts words room))
+      (λ u out. rw (is-1 u out, refused-after bad))
 
   pub vector-alike : (counters slots : List ℕ) (address : ℕ) → c-match-vector (settings-of k d e s a b c) counters slots address ≡ c-match-vector t counters slots address
   unfolding c-match-vector match-vector

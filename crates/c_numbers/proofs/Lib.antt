@@ -1,2 +1,3 @@
 -- That whatever a call gives back has room in its number.
 pub mod Fitting
+pub mod Streams

@@ -22,10 +22,13 @@ use borrow.Author.Tests.{lt-ltb}
 use borrow.Table.Referent.{fInt}
 use Rattle.rules.specs.Table.{lent, bytes-of}
 use Rattle.rules.specs.Calls.{Clear, Add, Withdraw, Change, word-sized, act}
+use Rattle.import_format.specs.Importing.{imported}
 use Rattle.caller_promises.proofs.Contracts.{owned}
 use Rattle.caller_promises.proofs.Elements.{elements-owned}
 use Rattle.caller_promises.proofs.Messages.{all-bytes}
-use Rattle.c_promises.specs.Calls.{Updated, LookedUp, Matched, ListedUp, Sent, Wrote}
+use Rattle.caller_promises.proofs.Imports.{array-owned}
+use Rattle.c_promises.specs.Numbers.{gateway-refusal}
+use Rattle.c_promises.specs.Calls.{Updated, LookedUp, Matched, ListedUp, Sent, Wrote, ChunkImported, StreamEnded}
 use Rattle.gateway.proofs.Arguments.{settings, past}
 use Rattle.gateway.proofs.gateway_clear
 use Rattle.gateway.proofs.gateway_clear.Reads as clear-reads
@@ -53,6 +56,11 @@ use Rattle.gateway.proofs.gateway_update.Reads as update-reads
 use Rattle.gateway.proofs.gateway_write_withdrawal
 use Rattle.gateway.proofs.gateway_write_withdrawal.Kinds as written-kinds
 use Rattle.gateway.proofs.gateway_write_withdrawal.Reads as written-reads
+use Rattle.gateway.proofs.gateway_import
+use Rattle.gateway.proofs.gateway_import.Kinds as import-kinds
+use Rattle.gateway.proofs.gateway_import.Reads as import-reads
+use Rattle.gateway.proofs.gateway_end_stream
+use Rattle.gateway.proofs.gateway_end_stream.Reads as end-reads
 
 pub clear-made : (κs : Lfts 3) (a : ArgsD gateway_clear.signature κs) (r : ResD gateway_clear.signature κs) (end : AtExit gateway_clear.ended κs) → clear-reads.Learnt κs a r end
     → Updated (settings a) Clear (lent (now (past a .0)) (now (past a .1 .0))) r (lent (now (past end .0)) (now (past end .1 .0)))
@@ -100,6 +108,18 @@ pub written-made : (κs : Lfts 1) (a : ArgsD gateway_write_withdrawal.signature 
     → Wrote (a .0) (a .1 .0) (now (a .1 .1 .0)) r (now (end .1 .1 .0))
 written-made κs a r end learnt = learnt
 
+-- A chunk of a dump: before it the number is that of the chunk before, which says nothing.
+pub import-made : (κs : Lfts 8) (a : ArgsD gateway_import.signature κs) (r : ResD gateway_import.signature κs) (end : AtExit gateway_import.ended κs) → import-reads.Learnt κs a r end
+    → areBytes (now (past a .1 .1 .1 .1 .1 .0)) ≡ true → areBytes (now (past a .1 .1 .1 .1 .1 .1 .0)) ≡ true → (number : ℕ)
+    → ChunkImported (settings a) (now (past a .1 .1 .0)) (imported number (now (past a .1 .1 .1 .0)) (now (past a .1 .1 .1 .1 .0)) (now (past a .1 .1 .1 .1 .1 .0)) (now (past a .0)) (now (past a .1 .0)))
+    (now (past a .1 .1 .1 .1 .1 .1 .0)) r
+    (imported (gateway-refusal r) (now (past end .1 .1 .1 .0)) (now (past end .1 .1 .1 .1 .0)) (now (past end .1 .1 .1 .1 .1 .0)) (now (past end .0)) (now (past end .1 .0)))
+import-made κs a r end learnt room-bytes bytes number = record { room-bytes = room-bytes; bytes = bytes; number = refl; crossed = learnt }
+
+pub end-made : (κs : Lfts 1) (a : ArgsD gateway_end_stream.signature κs) (r : ResD gateway_end_stream.signature κs) (end : AtExit gateway_end_stream.ended κs) → end-reads.Learnt κs a r end
+    → StreamEnded (now (a .0)) r (now (end .0))
+end-made κs a r end learnt = learnt
+
 -- In every model of the logic, what a call asks on entry holds what the types of its arguments tell.
 module _ (w : World) (κs : Lfts 3) (qs : Shares 3) where
   pub add-owned : (a : ArgsD gateway_add.signature κs) (vss : Valss (typesAt (gateway_add.signature .params) κs))
@@ -144,3 +164,14 @@ module _ (w : World) (κs : Lfts 1) (qs : Shares 1) where
   pub written-owned : (a : ArgsD gateway_write_withdrawal.signature κs) (vss : Valss (typesAt (gateway_write_withdrawal.signature .params) κs))
       → ent (w .𝓤) (onEntry (w .𝓤) (w .H) (w .𝓖 .A) gateway_write_withdrawal.signature κs qs a vss) (fact (w .𝓤) (GoodsP κs written-kinds.ps a))
   written-owned = owned w written-kinds.ps written-kinds.r κs qs
+
+-- Of an import they tell, once room and chunk are looked at (⇛), that each byte there is below 256.
+module _ (w : World) (κs : Lfts 8) (qs : Shares 8) (a : ArgsD gateway_import.signature κs) (vss : Valss (typesAt (gateway_import.signature .params) κs)) where
+  pub import-owned : ent (w .𝓤) (onEntry (w .𝓤) (w .H) (w .𝓖 .A) gateway_import.signature κs qs a vss) (fact (w .𝓤) (GoodsP κs import-kinds.ps a))
+  import-owned = owned w import-kinds.ps import-kinds.r κs qs a vss
+
+  pub room-bytes-owned : ent (w .𝓤) (onEntry (w .𝓤) (w .H) (w .𝓖 .A) gateway_import.signature κs qs a vss) (w .H .⇛ (fact (w .𝓤) (areBytes (now (past a .1 .1 .1 .1 .1 .0)) ≡ true)))
+  room-bytes-owned = array-owned w import-kinds.ps import-kinds.r κs qs a vss 65548 12 6 tt (past a .1 .1 .1 .1 .1 .0) refl
+
+  pub chunk-bytes-owned : ent (w .𝓤) (onEntry (w .𝓤) (w .H) (w .𝓖 .A) gateway_import.signature κs qs a vss) (w .H .⇛ (fact (w .𝓤) (areBytes (now (past a .1 .1 .1 .1 .1 .1 .0)) ≡ true)))
+  chunk-bytes-owned = elements-owned w import-kinds.ps import-kinds.r κs qs a vss (fInt w8) 13 7 tt (past a .1 .1 .1 .1 .1 .1 .0) refl (all-bytes (now (past a .1 .1 .1 .1 .1 .1 .0)))

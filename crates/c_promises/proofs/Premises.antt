@@ -3,7 +3,7 @@
 use Prim.Native.Nat.{ℕ, _+_, _*_, _^_}
 use mathlib.Core.Path.{_≡_, refl, sym, ap, _∙_}
 use mathlib.Core.Bool.{true}
-use mathlib.Core.List.{List, [], _∷_, _++_}
+use mathlib.Core.List.{List, [], _∷_}
 use native.Mathlib.Omega.{arith}
 use lib.Dec.{lit<}
 use lib.ListN.{replicate}
@@ -13,10 +13,9 @@ use Rattle.rules.specs.Calls.{Call, Clear, Add, Withdraw, word-sized, all-word-
 use Rattle.rules.proofs.Worked.{ip, T}
 use Rattle.rules.proofs.Members.{both}
 use Rattle.message_format.specs.Reading.{apply-message, report-number}
-use Rattle.message_format.proofs.Worked.{computing as reading}
 use Rattle.promises.specs.History.{Route, stored-by, History, Ran, Stop, Then}
-use Rattle.promises.specs.Demands.{Finds, SaysNone, Reordered, Nothing, First, Longest, NoMatch, probes-down-to, adds}
-use Rattle.promises.proofs.Agree.{sevens, showing}
+use Rattle.promises.specs.Demands.{Finds, SaysNone, Reordered, Nothing, First, Longest, probes-down-to, adds}
+use Rattle.promises.proofs.Showing.{sevens, showing}
 use Rattle.promises.proofs.Paper.{route}
 use Rattle.promises.proofs.Matches.{right}
 use Rattle.promises.proofs.Premises.{U}
@@ -24,10 +23,15 @@ use Rattle.promises.proofs.Histories.{made}
 use Rattle.promises.proofs.Promises.{finds-longest, says-none}
 use Rattle.message_promises.specs.Heard.{heard-calls}
 use Rattle.message_promises.proofs.Premises.{message, hops, calls, its-calls}
+use Rattle.import_format.specs.Importing.{Imported as Lent}
+use Rattle.import_promises.specs.Dumps.{untaken, imported-calls, next-chunk, Imports}
+use Rattle.caller_promises.proofs.Imports.{NoneLeft, Next}
+use Rattle.caller_promises.proofs.Premises.{zeros-bytes, filling, dump, begun}
 use Rattle.c_promises.specs.Numbers.{gateway-refusal, word-at, list-address, read-answer, read-report, read-result}
-use Rattle.c_promises.specs.Calls.{Updated, LookedUp, ListedUp, Sent, Did, Single, Addresses, Heard}
+use Rattle.c_promises.specs.Calls.{Updated, LookedUp, ListedUp, Sent, ChunkImported, Did, Single, Addresses, Heard, Imported}
 use Rattle.c_promises.proofs.Unpacking.{answer-read, message-read}
 use Rattle.c_promises.proofs.Lists.{list-accepted, result-read}
+use Rattle.c_promises.proofs.Imports.{c-imports}
 use Rattle.c_promises.proofs.Seat.{c-history}
 use Rattle.c_promises.proofs.Promises.{number-found, same-lookup-numbers, same-message-numbers}
 
@@ -47,7 +51,7 @@ did-all t m (call ∷ calls) words =
     let parts = both (word-sized call) (all-word-sized calls) words in
     Then (rw refusal-back at (Single (updated t call m (parts .0)))) (did-all t (act t call m .memory) calls (parts .1))
 
--- ---- A day of updates, one of them refused, a list of addresses, and a message
+-- ---- A day of updates, one of them refused, a list of addresses, a message, and a dump
 
 day : List Call
 day = Add (ip 10 0 0 0) 8 7 ∷ Add (ip 10 0 0 0) 8 9 ∷ Withdraw (ip 11 0 0 0) 8 ∷ []
@@ -66,14 +70,16 @@ record Worked (t : Settings) (before : Memory) : Type 0 where
   probed : probes-down-to t (stored-by day day-answers) (ip 10 2 2 3) 8 ≡ 1
   reported : apply-message t (act t Clear before .memory) message hops .report ≡ record { refusal = 0; accepted = 1; refused = 1 }
   calls-given : run t (act t Clear before .memory) calls .answers ≡ 7 ∷ 0 ∷ []
+  imported : next-chunk t hops (begun (act t Clear before .memory)) dump .number ≡ 0
+  add-given : run t (act t Clear before .memory) (Add (ip 10 0 0 0) 8 1 ∷ []) .answers ≡ 0 ∷ []
 
 at-T : Worked T sevens
-unfolding day day-answers reading showing
-at-T = record { cleared = refl; given = refl; probed = refl; reported = refl; calls-given = refl }
+unfolding day day-answers filling
+at-T = record { cleared = refl; given = refl; probed = refl; reported = refl; calls-given = refl; imported = refl; add-given = refl }
 
 at-U : Worked U (record { counters = replicate 688 7; slots = replicate 257 7 })
-unfolding day day-answers reading showing
-at-U = record { cleared = refl; given = refl; probed = refl; reported = refl; calls-given = refl }
+unfolding day day-answers filling
+at-U = record { cleared = refl; given = refl; probed = refl; reported = refl; calls-given = refl; imported = refl; add-given = refl }
 
 module _ {t : Settings} {before : Memory} (worked : Worked t before) where
   abbrev empty : Memory
@@ -146,6 +152,37 @@ module _ {t : Settings} {before : Memory} (worked : Worked t before) where
   message-found-met : Finds (lookup t (apply-message t empty message hops .memory) (ip 10 2 2 3)) (route (ip 10 0 0 0) 8 1)
   unfolding showing
   message-found-met = finds-longest message-lived (ip 10 2 2 3) (lit< tt) (route (ip 10 0 0 0) 8 1) (right (ip 10 2 2 3) (stored-by calls (7 ∷ 0 ∷ [])))
+
+  -- ---- A dump of one record, in one chunk
+
+  abbrev filled : Lent
+  filled = next-chunk t hops (begun empty) dump
+
+  abbrev number : ℕ
+  number = filled .number * 2 ^ 48
+
+  import-made : ChunkImported t hops (begun empty) dump number filled
+  unfolding next-chunk
+  import-made = record { room-bytes = zeros-bytes 65548; bytes = refl; number = sym (refusal-back (filled .number)); crossed = record { number = refl; leaves = refl } }
+
+  -- its record is the add of 10/8, which is accepted
+  stands-for : imported-calls hops (replicate 3 0) (replicate 65548 0) dump (gateway-refusal number) ≡ Add (ip 10 0 0 0) 8 1 ∷ []
+  unfolding filling
+  stands-for = rw (refusal-back (filled .number), worked .imported)
+
+  import-lived : History t (Add (ip 10 0 0 0) 8 1 ∷ []) (0 ∷ []) (filled .memory)
+  unfolding word-sized
+  import-lived = rw (stands-for, worked .add-given) at (c-history (updated t Clear before refl) (refusal-back _ ∙ worked .cleared) (Then (Imported import-made) Stop))
+
+  -- 10.2.2.3 gets the hop of the list's second place
+  import-found-met : Finds (lookup t (filled .memory) (ip 10 2 2 3)) (route (ip 10 0 0 0) 8 1)
+  unfolding showing
+  import-found-met = finds-longest import-lived (ip 10 2 2 3) (lit< tt) (route (ip 10 0 0 0) 8 1) (right (ip 10 2 2 3) (stored-by (Add (ip 10 0 0 0) 8 1 ∷ []) (0 ∷ [])))
+
+  -- the chunk was taken
+  imports-met : Imports t hops (begun empty) (dump ∷ []) filled
+  unfolding untaken
+  imports-met = c-imports (Next (number, import-made) (rw (worked .imported)) NoneLeft)
 
   -- ---- A table newly cleared
 

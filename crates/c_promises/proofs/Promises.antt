@@ -1,7 +1,7 @@
 -- What is said of the 64-bit numbers themselves, after a history: the number of a lookup as a whole, and demand 3's last
--- sentence as equal numbers. All else that is promised to a C program is a promise of crates/promises or
--- crates/message_promises, of the answer that it reads: rw (answer-read asked) (finds-longest history ..) is demand 2 of
--- gateway_lookup (proofs/Unpacking.antt, proofs/Lists.antt).
+-- sentence as equal numbers. All else that is promised to a C program is a promise of crates/promises,
+-- crates/message_promises or crates/import_promises, of the answer that it reads: rw (answer-read asked) (finds-longest
+-- history ..) is demand 2 of gateway_lookup (proofs/Unpacking.antt, proofs/Lists.antt, proofs/Imports.antt).
 use Prim.Native.Nat.{ℕ, _+_, _*_, _^_}
 use mathlib.Core.Path.{_≡_, sym, ap, _∙_}
 use mathlib.Core.List.{List, [], _∷_, append-cancel-left}

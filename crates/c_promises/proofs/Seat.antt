@@ -1,6 +1,6 @@
 -- What a C program did after an accepted clear is a history: each thing that it did is single calls, by the contracts alone.
--- So every promise of crates/promises and crates/message_promises holds of what it was given, and of what the header reads by
--- proofs/Unpacking.antt.
+-- So every promise of crates/promises, crates/message_promises and crates/import_promises holds of what it was given, and of what
+-- the header reads by proofs/Unpacking.antt.
 use Prim.Native.Nat.{ℕ}
 use mathlib.Core.Path.{_≡_, refl}
 use mathlib.Core.List.{List, []}
@@ -10,16 +10,20 @@ use Rattle.rules.specs.Calls.{Call, Clear, all-word-sized, run, each}
 use Rattle.promises.specs.History.{SingleCalls, History, Ran}
 use Rattle.promises.proofs.Histories.{made, one-made, seat-made, seat-history}
 use Rattle.message_promises.proofs.Routes.{message-single}
+use Rattle.import_promises.specs.Dumps.{next-chunk}
+use Rattle.import_promises.proofs.Singles.{import-single}
 use Rattle.c_promises.specs.Numbers.{gateway-refusal}
-use Rattle.c_promises.specs.Calls.{Updated, Did, Single, Addresses, Heard}
-use Rattle.c_promises.proofs.Unpacking.{update-read, message-read}
+use Rattle.c_promises.specs.Calls.{Updated, Did, Single, Addresses, Heard, Imported}
+use Rattle.c_promises.proofs.Unpacking.{update-read, message-read, import-read}
 
 -- Each thing that a C program does is single calls,
 pub did-single : {t : Settings} (m : Memory) (calls : List Call) (answers : List ℕ) (m' : Memory) → Did t m calls answers m' → SingleCalls t m calls answers m'
-unfolding all-word-sized run each
+unfolding all-word-sized run each next-chunk
 did-single m calls answers m' (Single updated) = one-made (updated .word) (update-read updated)
 did-single {t} m calls answers m' (Addresses asked) = made t m [] refl
 did-single {t} m calls answers m' (Heard {message = message} {hops} sent) = rw (message-read sent) at (message-single t m message hops (sent .bytes))
+did-single {t} m calls answers m' (Imported {hops} {chunk} {s} made) =
+    rw (import-read made, made .number) at (import-single t (s .memory) hops (s .counts) (s .words) (s .room) chunk (made .room-bytes) (made .bytes))
 
 -- and so are several, one after the other.
 pub c-made : {t : Settings} {m m' : Memory} {calls : List Call} {answers : List ℕ} → Ran (Did t) m calls answers m' → SingleCalls t m calls answers m'

@@ -21,12 +21,15 @@ use Rattle.c_words.proofs.Words.{count-whole, count-none}
 use Rattle.c_numbers.specs.Fitting.{Fits}
 use Rattle.message_format.specs.Reading.{refused-message, apply-message, report-number}
 use Rattle.message_format.proofs.Counting.{counts-fit}
-use Rattle.gateway.specs.Crossing.{ListCrossed}
+use Rattle.stream_format.specs.Kept.{End, ended-as}
+use Rattle.import_format.specs.Importing.{Imported, imported}
+use Rattle.gateway.specs.Crossing.{ListCrossed, EndCrossed}
 use Rattle.c_numbers.proofs.Fitting.{lookup-fits}
 use Rattle.promises.proofs.Refused as demand-1
 use Rattle.message_promises.proofs.Refused.{refused-unchanged}
+use Rattle.import_promises.specs.Dumps.{next-chunk}
 use Rattle.c_promises.specs.Numbers.{gateway-refusal, gateway-found, gateway-hop, gateway-length, gateway-probes, gateway-vector, gateway-accepted, gateway-refused, read-answer, read-vector, read-report}
-use Rattle.c_promises.specs.Calls.{Updated, LookedUp, Matched, Sent}
+use Rattle.c_promises.specs.Calls.{Updated, LookedUp, Matched, Sent, ChunkImported}
 
 -- ---- Slots as bytes
 
@@ -255,3 +258,26 @@ module _ {t : Settings} {m m' : Memory} {message hops : List ℕ} {answer : ℕ}
 pub equal-messages : {t : Settings} {m m' other other' : Memory} {message hops : List ℕ} {answer new-answer : ℕ} → Sent t m message hops answer m' → Sent t other message hops new-answer other'
     → apply-message t other message hops .report ≡ apply-message t m message hops .report → new-answer ≡ answer
 equal-messages sent new-sent same = new-sent .crossed .number ∙ ap report-number same ∙ sym (sent .crossed .number)
+
+-- ---- Dumps
+
+module _ {t : Settings} {hops chunk : List ℕ} {s s' : Imported} {answer : ℕ} (made : ChunkImported t hops s chunk answer s') where
+  -- A chunk gives back its number, and leaves what the rules leave.
+  pub import-read : next-chunk t hops s chunk ≡ s'
+  unfolding next-chunk
+  import-read =
+      let number = made .number ∙ refusal-read answer _ (made .crossed .number) in
+      sym (ap (λ n. imported n (s' .counts) (s' .words) (s' .room) (s' .memory .counters) (s' .memory .slots)) number ∙ made .crossed .leaves)
+
+  -- Every other bit of its number is zero.
+  pub import-zero-elsewhere : answer ≡ gateway-refusal answer * 2 ^ 48
+  import-zero-elsewhere = refusal-alone answer _ (made .crossed .number)
+
+module _ {u : End} {answer : ℕ} {words : List ℕ} (crossed : EndCrossed u answer words) where
+  -- The end of a stream gives back its number, and leaves the words that the rules leave.
+  pub end-read : u ≡ ended-as (gateway-refusal answer) words
+  end-read = sym (ap (λ n. ended-as n words) (refusal-read answer _ (crossed .number)) ∙ crossed .leaves)
+
+  -- Every other bit of the number is zero.
+  pub end-zero-elsewhere : answer ≡ gateway-refusal answer * 2 ^ 48
+  end-zero-elsewhere = refusal-alone answer _ (crossed .number)

@@ -1,5 +1,5 @@
 -- The calls that a C program made, as it sees them: the arguments that it gave, the number that came back, and counters and
--- slots afterwards, or the bytes that were written. A number of type uint32_t is below 2^32, and a byte below 256.
+-- slots afterwards, or the bytes and words that were written. A number of type uint32_t is below 2^32, and a byte below 256.
 use Prim.Native.Nat.{ℕ, _*_, _%_, _^_, _<_}
 use mathlib.Core.Path.{_≡_}
 use mathlib.Core.Bool.{true, not, _||_}
@@ -12,9 +12,12 @@ use Rattle.rules.specs.Table.{Memory, lent, words, c-lookup, c-match-vector, by
 use Rattle.rules.specs.Calls.{Call, word-sized, act, run}
 use Rattle.message_format.specs.Reading.{apply-message}
 use Rattle.message_format.specs.Writing.{write-withdrawal}
-use Rattle.gateway.specs.Crossing.{Crossed, ListCrossed, MessageCrossed}
+use Rattle.stream_format.specs.Kept.{end-stream}
+use Rattle.import_format.specs.Importing.{Imported as Lent, import-chunk}
+use Rattle.gateway.specs.Crossing.{Crossed, ListCrossed, MessageCrossed, ImportCrossed, EndCrossed}
 use Rattle.promises.specs.Demands.{Condition, _when_, memory-conditions}
 use Rattle.message_promises.specs.Heard.{heard-calls}
+use Rattle.import_promises.specs.Dumps.{imported-calls}
 use Rattle.c_promises.specs.Numbers.{gateway-refusal}
 
 -- ---- Single calls of include/gateway.h
@@ -48,6 +51,18 @@ pub record Sent (t : Settings) (m : Memory) (message hops : List ℕ) (answer : 
 abbrev pub Wrote : (p L : ℕ) (room : List ℕ) (answer : ℕ) (room' : List ℕ) → Type 0
 Wrote p L room answer room' = ListCrossed (write-withdrawal p L room) answer room'
 
+-- a chunk of a dump: s is what is lent at entry, counts, words, room and table, and s' what is left of it, with the number that
+-- the header reads
+pub record ChunkImported (t : Settings) (hops : List ℕ) (s : Lent) (chunk : List ℕ) (answer : ℕ) (s' : Lent) : Type 0 where
+  pub room-bytes : areBytes (s .room) ≡ true
+  pub bytes : areBytes chunk ≡ true
+  pub number : s' .number ≡ gateway-refusal answer
+  pub crossed : ImportCrossed (import-chunk t (s .memory) hops (s .counts) (s .words) (s .room) chunk) answer (s' .counts) (s' .words) (s' .room) (s' .memory .counters) (s' .memory .slots)
+
+-- the end of a stream, of which the words are words' at exit
+abbrev pub StreamEnded : (words : List ℕ) (answer : ℕ) (words' : List ℕ) → Type 0
+StreamEnded words answer words' = EndCrossed (end-stream words) answer words'
+
 -- what a list of addresses looks at, over any bytes: settings and sizes as every call, and then that there are four bytes of
 -- results to each byte of the addresses, and these are whole words
 unfoldable pub list-conditions : Settings → (counters slots addresses results : List ℕ) → List Condition
@@ -59,10 +74,13 @@ list-conditions t counters slots addresses results =
 -- ---- What a C program did
 
 -- One thing that a C program can do with a table under settings t: an update, which is a single call with the refusal that
--- the header reads; a list of addresses, which is none and changes nothing; or a message, which is its single calls, or none
--- where it was refused.
+-- the header reads; a list of addresses, which is none and changes nothing; a message, which is its single calls, or none
+-- where it was refused; or a chunk of a dump, which is the adds of the records that are complete with it, by the number that the
+-- header reads.
 pub data Did (t : Settings) : Memory → List Call → List ℕ → Memory → Type 0 where
   Single : {call : Call} {m m' : Memory} {answer : ℕ} → Updated t call m answer m' → Did t m (call ∷ []) (gateway-refusal answer ∷ []) m'
   Addresses : {m : Memory} {addresses results results' : List ℕ} {answer : ℕ} → ListedUp t m addresses results answer results' → Did t m [] [] m
   Heard : {m m' : Memory} {message hops : List ℕ} {answer : ℕ} → Sent t m message hops answer m'
       → Did t m (heard-calls message hops (gateway-refusal answer)) (run t m (heard-calls message hops (gateway-refusal answer)) .answers) m'
+  Imported : {hops chunk : List ℕ} {s s' : Lent} {answer : ℕ} → ChunkImported t hops s chunk answer s'
+      → Did t (s .memory) (imported-calls hops (s .words) (s .room) chunk (gateway-refusal answer)) (run t (s .memory) (imported-calls hops (s .words) (s .room) chunk (gateway-refusal answer)) .answers) (s' .memory)

@@ -1,8 +1,9 @@
--- What a caller of crates/table, crates/message_calls and crates/message_writers saw is a history (Callers), over what each
--- contract tells (Contracts, Messages) and what the types of lent lists tell (Elements); and that such calls can be made
--- (Premises).
+-- What a caller of crates/table, crates/message_calls, crates/message_writers, crates/import_calls and crates/stream_records saw is
+-- a history (Callers), over what each contract tells (Contracts, Messages, Imports) and what the types of what is lent tell
+-- (Elements); and that such calls can be made (Premises).
 pub mod Callers
 pub mod Contracts
 pub mod Messages
+pub mod Imports
 pub mod Elements
 pub mod Premises

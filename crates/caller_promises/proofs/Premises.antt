@@ -1,5 +1,5 @@
--- Calls of crates/table and crates/message_calls as they were made, at their own types, meet the premises: each is written
--- down with its arguments and what it gave back, and handed to the promises.
+-- Calls of crates/table, crates/message_calls and crates/import_calls as they were made, at their own types, meet the premises:
+-- each is written down with its arguments and what it gave back, and handed to the promises.
 use Prim.Native.Nat.{ℕ, zero, suc}
 use mathlib.Core.Path.{_≡_, refl}
 use mathlib.Core.Bool.{true}
@@ -20,6 +20,7 @@ use denote.Struct.Field.{u8-field}
 use denote.Struct.Laws.{val}
 use borrow.Author.Tests.{ltb-true}
 use Rattle.rules.specs.declared.Settings.{Settings}
+use Rattle.rules.specs.Tools.{fed}
 use Rattle.rules.specs.Table.{Memory, lent, clear, add, lookup, answer-words, list-words, listed, fourfold, list-refusal, lookup-list}
 use Rattle.rules.specs.Calls.{Clear, Add}
 use Rattle.rules.proofs.Members.{both}
@@ -28,18 +29,24 @@ use Rattle.rules.proofs.Settings.Laws.{the-laws}
 use Rattle.rules.proofs.Worked.{ip, T}
 use Rattle.message_format.specs.Reading.{apply-message}
 use Rattle.message_format.proofs.Worked.{computing as reading}
+use Rattle.stream_format.specs.Streams.{is-kind, body-size, to-read, to-step-over, header-read, next-byte, unless-ended, completed, byte-taken, chunk-taken}
+use Rattle.stream_format.specs.Kept.{ended-word, read-word, left-word, is-ended, ended-number, is-body, stage-of, words-of, inside-record, end-number, end-stream}
+use Rattle.import_format.specs.Routes.{entries-count, entries-from, entry-attributes, after-entry, entry-starts, entries-to, entries, entry-good, ends-well, record-good, entry-hop, chosen-hop, route-hop, record-calls}
+use Rattle.import_format.specs.Importing.{counts-more, record-imported, importing, counts-of, counts-words, counts-high, chunk-refusal, Imported as Lent, imported, stage-number, lent-back, taken-up, import-chunk}
 use Rattle.promises.specs.History.{stored-by, History, Stop, Then}
 use Rattle.promises.specs.Demands.{Finds, SaysNone, Words, answer-at, paper}
-use Rattle.promises.proofs.Agree.{sevens, showing}
+use Rattle.promises.proofs.Showing.{sevens, showing}
 use Rattle.promises.proofs.Paper.{route}
 use Rattle.promises.proofs.Matches.{right}
 use Rattle.promises.proofs.Premises.{U}
 use Rattle.promises.proofs.Promises.{finds-longest, says-none}
 use Rattle.message_promises.specs.Heard.{heard-calls}
 use Rattle.message_promises.proofs.Premises.{message, hops, calls}
+use Rattle.import_promises.specs.Dumps.{record-noted, noting, chunk-records, calls-of, untaken, imported-records, imported-calls, next-chunk, Imports}
 use Rattle.caller_promises.proofs.Contracts.{Called, ClearCalled, AddCalled, Looked, LookupCalled, looked-given, looked-word, ListCalled, LookupListCalled, place-looked}
 use Rattle.caller_promises.proofs.Messages.{MessageCalled, ApplyMessageCalled}
-use Rattle.caller_promises.proofs.Callers.{Single, Addresses, Heard, served-history, served-stores}
+use Rattle.caller_promises.proofs.Imports.{ImportCalled, ImportChunkCalled, EndCalled, EndStreamCalled, NoneLeft, Next, called-imports}
+use Rattle.caller_promises.proofs.Callers.{Single, Addresses, Heard, Imported, served-history, served-stores}
 
 -- T's settings with this list of D
 abbrev with-list : (d : List ℕ) → Settings
@@ -182,3 +189,58 @@ message-stored = served-stores clear-called-U (Then (Heard message-called) Stop)
 message-found : Finds (lookup U told (ip 10 2 2 3)) (route (ip 10 0 0 0) 8 1)
 unfolding showing
 message-found = finds-longest message-served (ip 10 2 2 3) (lit< tt) (route (ip 10 0 0 0) 8 1) (right (ip 10 2 2 3) (stored-by calls (7 ∷ 0 ∷ [])))
+
+-- ---- A dump of one record, in one chunk
+
+-- to unfold this is to unfold all that a chunk computes with
+unfoldable pub filling : ℕ
+unfolding fed is-kind body-size to-read to-step-over header-read next-byte unless-ended completed byte-taken chunk-taken ended-word read-word left-word is-ended ended-number is-body stage-of words-of entries-count entries-from entry-attributes after-entry entry-starts entries-to entries entry-good ends-well record-good entry-hop chosen-hop route-hop record-calls counts-more record-imported importing counts-of counts-words counts-high chunk-refusal stage-number lent-back taken-up import-chunk record-noted noting chunk-records calls-of untaken imported-records imported-calls next-chunk reading showing
+filling = 0
+
+-- a header of 12 bytes, and a body of 23 with 10/8 and one entry, whose NEXT_HOP is 192.0.2.1
+abbrev pub dump : List ℕ
+dump =
+    0 ∷ 0 ∷ 0 ∷ 0 ∷ 0 ∷ 13 ∷ 0 ∷ 2 ∷ 0 ∷ 0 ∷ 0 ∷ 23
+    ∷ 0 ∷ 0 ∷ 0 ∷ 0 ∷ 8 ∷ 10 ∷ 0 ∷ 1
+    ∷ 0 ∷ 0 ∷ 0 ∷ 0 ∷ 0 ∷ 0 ∷ 0 ∷ 7 ∷ 64 ∷ 3 ∷ 4 ∷ 192 ∷ 0 ∷ 2 ∷ 1 ∷ []
+
+-- what is lent to the first chunk: nothing is counted, and the words begin a stream
+abbrev pub begun : Memory → Lent
+begun m = imported 0 (replicate 3 0) (replicate 3 0) (replicate 65548 0) (m .counters) (m .slots)
+
+abbrev filled : Lent
+filled = next-chunk U hops (begun empty-U) dump
+
+pub zeros-bytes : (n : ℕ) → areBytes (replicate n 0) ≡ true
+zeros-bytes zero = refl
+zeros-bytes (suc n) = zeros-bytes n
+
+import-called : ImportCalled U hops (begun empty-U) dump filled
+unfolding next-chunk showing
+import-called = ImportChunkCalled ([], ([], ([], ([], ([], ([], ([], tt)))))))
+    (U, (lending (empty-U .counters), (lending (empty-U .slots), (lending hops, (lending (replicate 3 0), (lending (replicate 3 0), (lending (replicate 65548 0), (lending dump, tt)))))))) (filled .number)
+    (U, (lending (filled .memory .counters), (lending (filled .memory .slots), (lending hops, (lending (filled .counts), (lending (filled .words), (lending (filled .room), (lending dump, tt))))))))
+    (settings-good (U .d) refl refl, ((lit< tt, lit< tt), ((lit< tt, lit< tt), ((lit< tt, lit< tt), (refl, (refl, (refl, ((lit< tt, lit< tt), tt)))))))) (zeros-bytes 65548) refl refl
+
+-- its record is the add of 10/8 with the hop of the list's second place, which is accepted
+import-served : History U (Add (ip 10 0 0 0) 8 1 ∷ []) (0 ∷ []) (filled .memory)
+unfolding filling
+import-served = served-history clear-called-U (Then (Imported import-called) Stop)
+
+counts-met : filled .counts ≡ 1 ∷ 0 ∷ 0 ∷ []
+unfolding filling
+counts-met = refl
+
+-- 10.2.2.3 gets that hop
+import-found : Finds (lookup U (filled .memory) (ip 10 2 2 3)) (route (ip 10 0 0 0) 8 1)
+unfolding showing
+import-found = finds-longest import-served (ip 10 2 2 3) (lit< tt) (route (ip 10 0 0 0) 8 1) (right (ip 10 2 2 3) (stored-by (Add (ip 10 0 0 0) 8 1 ∷ []) (0 ∷ [])))
+
+-- the chunk was taken, and the end after it is given 0
+chunks-met : Imports U hops (begun empty-U) (dump ∷ []) filled
+unfolding filling
+chunks-met = called-imports (Next import-called refl NoneLeft)
+
+end-called : EndCalled (filled .words) 0 (1 ∷ 0 ∷ 0 ∷ [])
+unfolding end-stream end-number inside-record filling
+end-called = EndStreamCalled ([], tt) (lending (filled .words), tt) 0 (lending (1 ∷ 0 ∷ 0 ∷ []), tt) refl

@@ -1,12 +1,15 @@
--- From what a call of the table ensures to what crosses to C: one law for every update, one for what is lent to be written alone, and one for a message.
+-- From what a call ensures to what crosses to C: one law for every update, one for what is lent to be written alone, and one
+-- each for a message, a chunk of a dump and the end of a stream.
 use Prim.Native.Nat.{ℕ, _*_, _^_}
 use mathlib.Core.Path.{_≡_, refl}
 use mathlib.Core.List.{List}
 use Rattle.rules.specs.Table.{Outcome, left, Listed, answered}
 use Rattle.message_format.specs.declared.Report.{Report}
 use Rattle.message_format.specs.Reading.{Read, reported, report-number}
+use Rattle.stream_format.specs.Kept.{End, ended-as}
+use Rattle.import_format.specs.Importing.{Imported, imported}
 use Rattle.c_numbers.specs.Fitting.{RefusalFits, CountsFit}
-use Rattle.gateway.specs.Crossing.{Crossed, ListCrossed, MessageCrossed}
+use Rattle.gateway.specs.Crossing.{Crossed, ListCrossed, MessageCrossed, ImportCrossed, EndCrossed}
 
 module _ {u : Outcome} {refusal : ℕ} {counters slots : List ℕ} (ensured : u ≡ left refusal counters slots) where
   pub fits-above : RefusalFits (u .refusal) → RefusalFits refusal
@@ -28,3 +31,17 @@ module _ {u : Read} {report : Report} {counters slots : List ℕ} (ensured : u �
 
   pub message-crossed : {answer : ℕ} → answer ≡ report-number report → MessageCrossed u answer counters slots
   message-crossed number = rw ensured (record { number = number; memory = refl })
+
+module _ {u : Imported} {number : ℕ} {counts words room counters slots : List ℕ} (ensured : u ≡ imported number counts words room counters slots) where
+  pub import-fits-above : RefusalFits (u .number) → RefusalFits number
+  import-fits-above fits = rw ensured at fits
+
+  pub import-crossed : {answer : ℕ} → answer ≡ number * 2 ^ 48 → ImportCrossed u answer counts words room counters slots
+  import-crossed given = rw ensured (record { number = given; leaves = refl })
+
+module _ {u : End} {number : ℕ} {words : List ℕ} (ensured : u ≡ ended-as number words) where
+  pub end-fits-above : RefusalFits (u .number) → RefusalFits number
+  end-fits-above fits = rw ensured at fits
+
+  pub end-crossed : {answer : ℕ} → answer ≡ number * 2 ^ 48 → EndCrossed u answer words
+  end-crossed given = rw ensured (record { number = given; leaves = refl })

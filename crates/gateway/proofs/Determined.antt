@@ -6,6 +6,8 @@ use mathlib.Core.List.{List}
 use contract.Lifetimes.{Lfts}
 use denote.Ref.{now}
 use Rattle.rules.specs.Table.{Memory, Outcome}
+use Rattle.stream_format.specs.Kept.{End}
+use Rattle.import_format.specs.Importing.{Imported}
 use Rattle.gateway.specs.Crossing.{Crossed}
 use Rattle.gateway.proofs.Arguments.{past}
 use Rattle.gateway.proofs.gateway_clear.Reads as clear
@@ -17,6 +19,8 @@ use Rattle.gateway.proofs.gateway_lookup.Reads as lookup
 use Rattle.gateway.proofs.gateway_lookup_list.Reads as lookup-list
 use Rattle.gateway.proofs.gateway_update.Reads as update
 use Rattle.gateway.proofs.gateway_write_withdrawal.Reads as write-withdrawal
+use Rattle.gateway.proofs.gateway_import.Reads as import
+use Rattle.gateway.proofs.gateway_end_stream.Reads as end-stream
 
 -- the two lists that an update leaves stand after the settings
 alike : (u : Outcome) {r q : ℕ} {counters bytes slots words : List ℕ} → Crossed u r counters slots → Crossed u q bytes words
@@ -60,3 +64,20 @@ update-determined κs a r q s e one other =
 pub write-withdrawal-determined : (κs : Lfts 1) (a : _) (r q : _) (s e : _) → write-withdrawal.Post κs a r s → write-withdrawal.Post κs a q e
     → (r ≡ q) × (now (s .1 .1 .0) ≡ now (e .1 .1 .0))
 write-withdrawal-determined κs a r q s e one other = (one .number ∙ sym (other .number), one .results ∙ sym (other .results))
+
+-- a chunk leaves counters and slots, and after the next hops the counts, the words and the room
+pub import-determined : (κs : Lfts 8) (a : _) (r q : _) (s e : _) → import.Post κs a r s → import.Post κs a q e
+    → (r ≡ q) × (now (past s .0) ≡ now (past e .0)) × (now (past s .1 .0) ≡ now (past e .1 .0))
+    × (now (past s .1 .1 .1 .0) ≡ now (past e .1 .1 .1 .0)) × (now (past s .1 .1 .1 .1 .0) ≡ now (past e .1 .1 .1 .1 .0)) × (now (past s .1 .1 .1 .1 .1 .0) ≡ now (past e .1 .1 .1 .1 .1 .0))
+import-determined κs a r q s e one other =
+    let same = one .leaves ∙ sym (other .leaves) in (
+      one .number ∙ sym (other .number),
+      ap (λ (u : Imported). u .memory .counters) same,
+      ap (λ (u : Imported). u .memory .slots) same,
+      ap (λ (u : Imported). u .counts) same,
+      ap (λ (u : Imported). u .words) same,
+      ap (λ (u : Imported). u .room) same,
+    )
+
+pub end-stream-determined : (κs : Lfts 1) (a : _) (r q : _) (s e : _) → end-stream.Post κs a r s → end-stream.Post κs a q e → (r ≡ q) × (now (s .0) ≡ now (e .0))
+end-stream-determined κs a r q s e one other = (one .number ∙ sym (other .number), ap (λ (u : End). u .words) (one .leaves ∙ sym (other .leaves)))

@@ -1,4 +1,4 @@
-// The gateway table for C: nine exported calls on numbers and lent memory. No call requires anything,
+// The gateway table for C: eleven exported calls on numbers and lent memory. No call requires anything,
 // keeps anything or copies the memory. Questions read the slots as bytes, four to a word, the
 // low byte first; the updates write them as words of the machine. What a C program may rely on is
 // proved in crates/c_promises.
@@ -6,8 +6,10 @@ ghost use mathlib.Core.Path.{_≡_};
 ghost use Rattle.rules.specs.Table.{lent, c-lookup, c-match-vector, c-lookup-list, clear, add, withdraw, change};
 ghost use Rattle.message_format.specs.Reading.{apply-message};
 ghost use Rattle.message_format.specs.Writing.{write-withdrawal};
+ghost use Rattle.stream_format.specs.Kept.{end-stream};
+ghost use Rattle.import_format.specs.Importing.{import-chunk};
 ghost use Rattle.c_calls.specs.Lent.{settings-of};
-ghost use Rattle.gateway.specs.Crossing.{Crossed, ListCrossed, MessageCrossed};
+ghost use Rattle.gateway.specs.Crossing.{Crossed, ListCrossed, MessageCrossed, ImportCrossed, EndCrossed};
 use c_calls::settings_of;
 use c_numbers::number_of_answer;
 use c_numbers::number_of_report;
@@ -187,4 +189,46 @@ pub extern "C" fn gateway_write_withdrawal(prefix: u32, length: u32, room: &mut 
     ensures { λ r. ⌜ ListCrossed (write-withdrawal prefix length (now (room .entry))) r (now (room .exit)) ⌝ }
 {
     refusal_part(message_writers::write_withdrawal(prefix, length, room))
+}
+
+// Takes one chunk of a dump: adds the route of each record that is complete with it, and counts. What is kept
+// of the stream between two chunks lies in three words and in room for one record.
+#[no_mangle]
+pub extern "C" fn gateway_import(
+    k: u32,
+    d: &[u8],
+    e: u32,
+    s: u32,
+    a: u32,
+    b: u32,
+    c: u32,
+    counters: &mut [u8],
+    slots: &mut [u32],
+    hops: &[u32],
+    counts: &mut [u32; 3],
+    words: &mut [u32; 3],
+    room: &mut [u8; 65548],
+    chunk: &[u8],
+) -> u64
+    ensures { λ r. ⌜ ImportCrossed (import-chunk (settings-of k (now (d .entry)) e s a b c) (lent (now (counters .entry)) (now (slots .entry))) (now (hops .entry)) (now (counts .entry)) (now (words .entry)) (now (room .entry)) (now (chunk .entry))) r (now (counts .exit)) (now (words .exit)) (now (room .exit)) (now (counters .exit)) (now (slots .exit)) ⌝ }
+{
+    let settings = settings_of(k, d, e, s, a, b, c);
+    refusal_part(import_calls::import_chunk(
+        settings,
+        counters,
+        slots,
+        hops,
+        counts,
+        words,
+        room,
+        chunk,
+    ))
+}
+
+// Ends a stream of records: 17 inside a record.
+#[no_mangle]
+pub extern "C" fn gateway_end_stream(words: &mut [u32; 3]) -> u64
+    ensures { λ r. ⌜ EndCrossed (end-stream (now (words .entry))) r (now (words .exit)) ⌝ }
+{
+    refusal_part(stream_records::end_stream(words))
 }

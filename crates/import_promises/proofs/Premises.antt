@@ -1,0 +1,210 @@
+-- The promises' premises are met by worked dumps, under settings T and under filters of unequal size: what a chunk is given is
+-- computed, and handed to the promise. The room is short, which the definitions allow.
+use Prim.Native.Nat.{ℕ}
+use mathlib.Core.Path.{_≡_, refl, ap, _∙_}
+use mathlib.Core.Bool.{false}
+use mathlib.Core.List.{List, [], _∷_, _++_}
+use native.Mathlib.Omega.{arith}
+use lib.Dec.{lit<}
+use lib.ListN.{replicate, take, drop}
+use Rattle.rules.specs.declared.Settings.{Settings}
+use Rattle.rules.specs.Tools.{those, fed, input-of}
+use Rattle.rules.specs.Table.{Memory, lookup}
+use Rattle.rules.specs.Calls.{Call, Clear, Add, word-sized, all-word-sized, act, each, run, accepted-of}
+use Rattle.rules.proofs.Worked.{ip, T}
+use Rattle.message_format.proofs.Worked.{computing as reading}
+use Rattle.stream_format.specs.Streams.{is-kind, body-size, to-read, to-step-over, header-read, next-byte, unless-ended, completed, byte-taken, chunk-taken}
+use Rattle.stream_format.specs.Kept.{ended-word, read-word, left-word, is-ended, ended-number, is-body, stage-of, words-of, inside-record, end-number, end-stream}
+use Rattle.stream_format.proofs.Ends.{inside}
+use Rattle.import_format.specs.Routes.{entries-count, entries-from, entry-attributes, after-entry, entry-starts, entries-to, entries, entry-good, ends-well, record-good, entry-hop, chosen-hop, route-hop, record-calls}
+use Rattle.import_format.specs.Importing.{counts-more, record-imported, importing, counts-of, counts-words, counts-high, chunk-refusal, Imported, stage-number, lent-back, taken-up, as-it-was, import-chunk}
+use Rattle.promises.specs.History.{Route, on-paper, stored-by, History}
+use Rattle.promises.specs.Demands.{some-below, Finds, First, Nothing, paper, adds}
+use Rattle.promises.proofs.Showing.{sevens, showing}
+use Rattle.promises.proofs.Premises.{U}
+use Rattle.promises.proofs.Histories.{made, history-of}
+use Rattle.promises.proofs.Matches.{right}
+use Rattle.promises.proofs.Paper.{route}
+use Rattle.promises.proofs.Promises.{finds-longest}
+use Rattle.import_promises.specs.Dumps.{record-noted, noting, chunk-records, calls-of, hopless-of, untaken, imported-records, imported-calls, over-limit, next-chunk, Imports, NoMore, Chunk, SameImport, SameGiven}
+use Rattle.import_promises.proofs.Cuts.{any-cut, any-cut-whole}
+use Rattle.import_promises.proofs.Promises.{import-refused, import-taken, import-history, import-numbers, import-accepts, import-hopless, same-imports}
+use Rattle.import_promises.proofs.Refused.{ended-unchanged, refused-unchanged, goes-on, has-ended, end-numbers, end-stays}
+
+-- to unfold this is to unfold all that an import computes with
+unfoldable dumping : ℕ
+unfolding fed is-kind body-size to-read to-step-over header-read next-byte unless-ended completed byte-taken chunk-taken ended-word read-word left-word is-ended ended-number is-body stage-of words-of inside-record end-number end-stream entries-count entries-from entry-attributes after-entry entry-starts entries-to entries entry-good ends-well record-good entry-hop chosen-hop route-hop record-calls counts-more record-imported importing counts-of counts-words counts-high chunk-refusal stage-number lent-back taken-up import-chunk record-noted noting chunk-records calls-of hopless-of untaken imported-records imported-calls over-limit next-chunk some-below paper adds reading showing
+dumping = 0
+
+-- two records: 10/8 with the hop of 192.0.2.1, and 11/8, which no neighbour announces
+abbrev pub dump : List ℕ
+dump =
+    (0 ∷ 0 ∷ 0 ∷ 0 ∷ 0 ∷ 13 ∷ 0 ∷ 2 ∷ 0 ∷ 0 ∷ 0 ∷ 23 ∷ [])
+    ++ (0 ∷ 0 ∷ 0 ∷ 0 ∷ 8 ∷ 10 ∷ 0 ∷ 1 ∷ 0 ∷ 0 ∷ 0 ∷ 0 ∷ 0 ∷ 0 ∷ 0 ∷ 7 ∷ 64 ∷ 3 ∷ 4 ∷ 192 ∷ 0 ∷ 2 ∷ 1 ∷ [])
+    ++ (0 ∷ 0 ∷ 0 ∷ 0 ∷ 0 ∷ 13 ∷ 0 ∷ 2 ∷ 0 ∷ 0 ∷ 0 ∷ 8 ∷ [])
+    ++ (0 ∷ 0 ∷ 0 ∷ 1 ∷ 8 ∷ 11 ∷ 0 ∷ 0 ∷ [])
+
+abbrev pub hops : List ℕ
+hops = ip 198 51 100 1 ∷ ip 192 0 2 1 ∷ []
+
+abbrev pub zeros : List ℕ
+zeros = 0 ∷ 0 ∷ 0 ∷ []
+
+abbrev pub room : List ℕ
+room = replicate 100 0
+
+abbrev pub calls : List Call
+calls = Add (ip 10 0 0 0) 8 1 ∷ []
+
+-- its one call
+pub its-calls : imported-calls hops zeros room dump 0 ≡ calls
+unfolding dumping
+its-calls = refl
+
+-- and the one record that is none
+its-hopless : hopless-of hops (imported-records zeros room dump 0) ≡ 1
+unfolding dumping
+its-hopless = refl
+
+-- an import into a table newly cleared, on memory that held anything
+abbrev begin : Settings → (before : Memory) → Imported
+begin t before = record { number = 0; counts = zeros; words = zeros; room = room; memory = act t Clear before .memory }
+
+-- what is computed under settings t: the dump as one chunk, cut within the first body, and with a body of no bytes
+record Worked (t : Settings) (before : Memory) : Type 0 where
+  cleared : act t Clear before .refusal ≡ 0
+  numbers : paper t [] calls .answers ≡ 0 ∷ []
+  whole : next-chunk t hops (begin t before) dump .number ≡ 0
+  first : next-chunk t hops (begin t before) (take 20 dump) .number ≡ 0
+  second : next-chunk t hops (next-chunk t hops (begin t before) (take 20 dump)) (drop 20 dump) .number ≡ 0
+  left : next-chunk t hops (begin t before) (take 20 dump) .words ≡ 0 ∷ 20 ∷ 15 ∷ []
+  ended : next-chunk t hops (begin t before) (take 11 dump ++ 0 ∷ []) .number ≡ 12
+
+at-T : Worked T sevens
+unfolding dumping
+at-T = record { cleared = refl; numbers = refl; whole = refl; first = refl; second = refl; left = refl; ended = refl }
+
+at-U : Worked U (record { counters = replicate 688 7; slots = replicate 257 7 })
+unfolding dumping
+at-U = record { cleared = refl; numbers = refl; whole = refl; first = refl; second = refl; left = refl; ended = refl }
+
+module _ {t : Settings} {before : Memory} (worked : Worked t before) where
+  abbrev empty : Memory
+  empty = act t Clear before .memory
+
+  abbrev start : Imported
+  start = begin t before
+
+  begun : History t [] [] empty
+  unfolding all-word-sized showing
+  begun = history-of before (worked .cleared) (made t empty [] refl)
+
+  -- ---- Two cuttings
+
+  abbrev one : Imported
+  one = next-chunk t hops start dump
+
+  abbrev half : Imported
+  half = next-chunk t hops start (take 20 dump)
+
+  abbrev other : Imported
+  other = next-chunk t hops half (drop 20 dump)
+
+  -- a chunk that is given 0 is taken
+  with-0 : {number : ℕ} → number ≡ 0 → untaken number ≡ false
+  unfolding untaken
+  with-0 none = rw none
+
+  in-one : Imports t hops start (dump ∷ []) one
+  in-one = Chunk (with-0 (worked .whole)) NoMore
+
+  in-two : Imports t hops start (take 20 dump ∷ drop 20 dump ∷ []) other
+  in-two = Chunk (with-0 (worked .first)) (Chunk (with-0 (worked .second)) NoMore)
+
+  -- they come to the same
+  cut-met : SameImport one other
+  unfolding input-of
+  cut-met = any-cut t hops refl in-one in-two
+
+  cut-whole-met : one ≡ other
+  unfolding input-of
+  cut-whole-met = any-cut-whole t hops refl in-one in-two
+
+  -- ---- Numbers given back
+
+  -- with a count above the limit it is refused with 19, and leaves all as it was
+  abbrev high : List ℕ
+  high = 0 ∷ 4000000001 ∷ 0 ∷ []
+
+  high-met : import-chunk t empty hops high zeros room dump .number ≡ 19
+  unfolding dumping
+  high-met = import-refused begun hops high zeros room dump refl .1 refl
+
+  unchanged-met : import-chunk t empty hops high zeros room dump ≡ as-it-was 19 empty high zeros room
+  unfolding untaken
+  unchanged-met = refused-unchanged t empty hops high zeros room dump (rw high-met) ∙ ap (λ number. as-it-was number empty high zeros room) high-met
+
+  -- within it, it is taken, and the stream goes on
+  taken-met : untaken (one .number) ≡ false
+  unfolding dumping
+  taken-met = import-taken begun hops zeros zeros room dump refl .1 refl
+
+  goes-on-met : is-ended (one .words) ≡ false
+  unfolding next-chunk is-ended ended-word
+  goes-on-met = goes-on t empty hops zeros zeros room dump refl (worked .whole)
+
+  -- within a record the end gives 17, and then every chunk is given that
+  end-met : end-stream (half .words) .number ≡ 17
+  unfolding dumping inside
+  end-met = rw (worked .left) (end-numbers (0 ∷ 20 ∷ 15 ∷ []) refl room)
+
+  end-stays-met : import-chunk t empty hops zeros (end-stream (half .words) .words) room dump .number ≡ 17
+  end-stays-met = ap (λ i. i .number) (end-stays (half .words) t empty hops zeros room dump .0) ∙ end-met
+
+  -- a record of no bytes ends the import with 12, and then every chunk is given that
+  abbrev bad : Imported
+  bad = next-chunk t hops start (take 11 dump ++ 0 ∷ [])
+
+  bad-met : next-chunk t hops bad dump .number ≡ 12
+  unfolding next-chunk untaken is-ended ended-word
+  bad-met =
+      let over = has-ended t empty hops zeros zeros room (take 11 dump ++ 0 ∷ []) refl (rw (worked .ended)) (rw (worked .ended) (omega arith)) in
+      ap (λ i. i .number) (ended-unchanged t (bad .memory) hops (bad .counts) (bad .words) (bad .room) dump (over .0)) ∙ over .1 ∙ worked .ended
+
+  -- ---- The history
+
+  its-done : imported-calls hops zeros room dump (one .number) ≡ calls
+  its-done = rw (worked .whole) its-calls
+
+  given : run t empty calls .answers ≡ 0 ∷ []
+  unfolding stored-by on-paper next-chunk
+  given = rw its-done at (import-numbers begun hops zeros zeros room dump refl refl) ∙ worked .numbers
+
+  after : History t calls (0 ∷ []) (one .memory)
+  unfolding next-chunk
+  after = rw (its-done, given) at (import-history begun hops zeros zeros room dump refl refl)
+
+  -- one route is accepted, and one record has no hop
+  counts-met : (counts-of (one .counts) .accepted ≡ 1) × (counts-of (one .counts) .hopless ≡ 1)
+  unfolding next-chunk stored-by on-paper accepted-of those counts-of
+  counts-met = (
+    import-accepts begun hops zeros zeros room dump refl refl ∙ rw (its-done, worked .numbers),
+    import-hopless begun hops zeros zeros room dump refl refl ∙ rw (worked .whole, its-hopless),
+  )
+
+  -- 10.2.2.3 gets the hop of the list's second place
+  found-met : Finds (lookup t (one .memory) (ip 10 2 2 3)) (route (ip 10 0 0 0) 8 1)
+  unfolding showing
+  found-met = finds-longest after (ip 10 2 2 3) (lit< tt) (route (ip 10 0 0 0) 8 1) (right (ip 10 2 2 3) (stored-by calls (0 ∷ [])))
+
+  -- a table newly cleared, to which 10/8 is added, gives the rest of a dump the same
+  abbrev order : List Route
+  order = route (ip 10 0 0 0) 8 1 ∷ []
+
+  anew : History t (adds order) (run t empty (adds order) .answers) (run t empty (adds order) .last)
+  unfolding adds all-word-sized word-sized
+  anew = history-of before (worked .cleared) (made t empty (adds order) refl)
+
+  same-met : SameGiven (import-chunk t (run t empty (adds order) .last) hops zeros zeros room dump) (import-chunk t (one .memory) hops zeros zeros room dump)
+  unfolding all-word-sized run each showing
+  same-met = same-imports after (First (route (ip 10 0 0 0) 8 1) Nothing) anew (made t (one .memory) [] refl) (made t (run t empty (adds order) .last) [] refl) hops zeros zeros room dump refl refl
