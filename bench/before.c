@@ -2,8 +2,8 @@
  * Measures the library beside that of an earlier commit: the same calls on the same tables, in turns within one
  * run. The earlier one's functions are called before_lookup and so on, this one's now_lookup. Every answer of
  * the two is compared, and after updates every byte. Who goes first changes from round to round, and who has
- * which memory. Messages are left out where the earlier library does not have them, and so are tables with a D
- * for each length. It is told whether the earlier one takes one D for all lengths, or a list.
+ * which memory. Messages and imports are left out where the earlier library does not have them, and so are tables
+ * with a D for each length. It is told whether the earlier one takes one D for all lengths, or a list.
  *
  *     before NAME one-d|list
  */
@@ -21,6 +21,8 @@
     extern __typeof__(gateway_lookup_list) word##_lookup_list;                                     \
     extern __typeof__(gateway_update) word##_update __attribute__((weak));                         \
     extern __typeof__(gateway_write_withdrawal) word##_write_withdrawal __attribute__((weak));     \
+    extern __typeof__(gateway_import) word##_import __attribute__((weak));                         \
+    extern __typeof__(gateway_end_stream) word##_end_stream __attribute__((weak));                 \
     static struct calls word = CALLS_OF(word)
 
 LIBRARY(before);
@@ -123,6 +125,32 @@ static void measure_messages(const struct table *t)
     take_back(&memory[1]);
 }
 
+static void measure_imports(const struct table *t)
+{
+    struct memory memory[BOTH] = {lend_table(t), lend_table(t)};
+    const uint32_t many = fill(t, &before, &memory[0], &now, &memory[1]);
+
+    for (int i = 0; i < DUMPS; i++) {
+        make_dump(t, record_entries[i]);
+        for (int j = 0; j < CHUNKS; j++) {
+            struct gateway_counts counts[BOTH];
+            double ns[BOTH] = {0};
+            for (int round = 0; round < ROUNDS; round++) {
+                IN_TURNS (turn, one)
+                    import_each(&ns[one], t, &memory[turn], libraries[one], libraries[one]->import, chunk_bytes[j],
+                                &counts[one]);
+                check_counts(&counts[0], &counts[1]);
+                check_memory(&memory[0], &memory[1]);
+            }
+            char what[32];
+            snprintf(what, sizeof what, "imported, %u, %u", (unsigned)record_entries[i], (unsigned)chunk_bytes[j]);
+            print_times(t, many, what, (const double[BOTH]){ns[0] / t->routes, ns[1] / t->routes});
+        }
+    }
+    take_back(&memory[0]);
+    take_back(&memory[1]);
+}
+
 static void measure(void (*each)(const struct table *), const struct table *tables, int many)
 {
     for (int i = 0; i < many; i++) {
@@ -144,6 +172,8 @@ int main(int argc, char **argv)
     printf("nanoseconds to a call, or to an address of a list, best of %d rounds over %d addresses or %d routes\n",
            ROUNDS, ADDRESSES, TURNS);
     printf("offered, stored: routes; short and long: lists of %d and of %d\n", SHORT_LIST, LONG_LIST);
+    if (before.import != NULL)
+        printf("imported: nanoseconds to a record of so many entries, in chunks of so many bytes\n");
     printf("%s\n\n", before.one_d ? "the library before takes one D for all lengths, now it is a list of 32"
                                  : "D *: each length has the D that suits its routes, else all have the same");
     printf("offered  stored  K  D E S                          before ns  now ns  ratio\n");
@@ -151,6 +181,8 @@ int main(int argc, char **argv)
     measure(measure_updates, updated, TABLES);
     if (before.update != NULL)
         measure(measure_messages, updated, TOLD_TABLES);
+    if (before.import != NULL)
+        measure(measure_imports, updated, IMPORT_TABLES);
     printf("\nevery answer agrees, and every byte\n");
     return 0;
 }

@@ -1,9 +1,9 @@
 /*
  * Measures the proved calls beside calls written by hand in C: lookups and match vectors of the same million
  * addresses, withdrawals and adds of the same routes, and adds that replace a route, on the same tables, in
- * turns within one run; a neighbour's messages; and the lookup of a list beside as many single ones. Every answer
- * of the two is compared, and after updates every byte. Settings are arguments to both, so neither compiler knows
- * them.
+ * turns within one run; a neighbour's messages; dumps that are imported; and the lookup of a list beside as many
+ * single ones. Every answer of the two is compared, and after updates every byte. Settings are arguments to both,
+ * so neither compiler knows them.
  */
 #include "measure.h"
 #include "table.h"
@@ -125,6 +125,57 @@ static void measure_messages(const struct table *t)
     take_back(&second);
 }
 
+static void measure_imports(const struct table *t)
+{
+    struct memory first = lend_table(t), second = lend_table(t);
+    fill(t, &hand, &first, &proved, &second);
+
+    for (int i = 0; i < DUMPS; i++) {
+        const size_t size = make_dump(t, record_entries[i]);
+        for (int j = 0; j < CHUNKS; j++) {
+            const size_t chunk = chunk_bytes[j];
+            double hand_ns = 0, place_ns = 0, proved_ns = 0;
+            struct gateway_counts ours, theirs;
+            for (int round = 0; round < ROUNDS; round++) {
+                import_each(&hand_ns, t, &first, &hand, hand.import, chunk, &ours);
+                import_each(&proved_ns, t, &second, &proved, proved.import, chunk, &theirs);
+                check_counts(&ours, &theirs);
+                check_memory(&first, &second);
+                import_each(&place_ns, t, &first, &hand, hand_import_in_place, chunk, &ours);
+                check_counts(&ours, &theirs);
+                check_memory(&first, &second);
+            }
+            print_table(t, theirs.accepted);
+            printf("  %7u  %5.0f  %5u  %7.1f  %9.1f  %5.2f  %8.1f  %5.2f  %6.2f  %6.2f  %6.0f  %6.0f\n",
+                   (unsigned)record_entries[i], (double)size / t->routes, (unsigned)chunk, hand_ns / t->routes,
+                   proved_ns / t->routes, proved_ns / hand_ns, place_ns / t->routes, proved_ns / place_ns,
+                   1e3 * t->routes / hand_ns, 1e3 * t->routes / proved_ns, 1e3 * (double)size / hand_ns,
+                   1e3 * (double)size / proved_ns);
+        }
+    }
+    take_back(&first);
+    take_back(&second);
+}
+
+static void measure_steps(const struct table *t)
+{
+    struct memory memory = lend_table(t);
+    for (int i = 0; i < BODIES; i++) {
+        const double size = (double)make_other_dump(stepped_bodies[i]);
+        double hand_ns = 0, proved_ns = 0, read_ns = 0;
+        struct gateway_counts ours, theirs;
+        for (int round = 0; round < ROUNDS; round++) {
+            import_each(&hand_ns, t, &memory, &hand, hand.import, chunk_bytes[0], &ours);
+            import_each(&proved_ns, t, &memory, &proved, proved.import, chunk_bytes[0], &theirs);
+            check_counts(&ours, &theirs);
+            read_each(&read_ns);
+        }
+        printf("%7u  %7.1f  %7.1f  %5.2f  %6.1f\n", (unsigned)stepped_bodies[i], size / hand_ns, size / proved_ns,
+               proved_ns / hand_ns, size / read_ns);
+    }
+    take_back(&memory);
+}
+
 static void measure_lists(const struct table *t)
 {
     struct memory first = lend_table(t), second = lend_table(t);
@@ -181,6 +232,21 @@ int main(void)
     printf("                                   announced                  withdrawn                  millions\n");
     printf("offered  stored  K  D E S  routes  hand ns  proved ns  ratio  hand ns  proved ns  ratio    hand  proved\n");
     measure(measure_messages, updated, TOLD_TABLES);
+    printf("\nnanoseconds to a record of a dump, best of %d times, or of %d where there are many chunks, that a\n",
+           ROUNDS * TIMES_IMPORTED, ROUNDS);
+    printf("record for each route offered is imported into a cleared table, in chunks of so many bytes\n");
+    printf("hand: a reader in C, which copies each record into the room, checks it there and does its route;\n");
+    printf("in place: one that does this where a record lies, if it lies within a chunk, and leaves it there\n");
+    printf("entries, bytes: of a record; millions: so many records a second; MB/s: of the dump\n\n");
+    printf("%97s%s", "", "millions            MB/s\n");
+    printf("offered  stored  K  D E S  entries  bytes  chunk  hand ns  proved ns  ratio  in place  ratio  ");
+    printf("  hand  proved    hand  proved\n");
+    measure(measure_imports, updated, IMPORT_TABLES);
+    printf("\nGB/s of records that are stepped over, best of %d times over %d MiB in chunks of %u bytes\n",
+           ROUNDS * TIMES_IMPORTED, STEPPED >> 20, (unsigned)chunk_bytes[0]);
+    printf("bytes: of a record's body on average; ratio: the proved time over hand's; read: every byte is summed up\n\n");
+    printf("  bytes     hand   proved  ratio    read\n");
+    measure_steps(&updated[0]);
     printf("\nnanoseconds to an address, best of %d rounds over %d addresses\n", ROUNDS, ADDRESSES);
     printf("single: a call to each; short and long: a call to each list of %d and of %d\n\n", SHORT_LIST, LONG_LIST);
     printf("offered  stored  K  D E S  single ns  short ns  ratio  long ns  ratio\n");

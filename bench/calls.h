@@ -13,6 +13,8 @@ struct calls {
     __typeof__(gateway_lookup_list) *lookup_list;
     __typeof__(gateway_update) *update;
     __typeof__(gateway_write_withdrawal) *write_withdrawal;
+    __typeof__(gateway_import) *import;
+    __typeof__(gateway_end_stream) *end_stream;
     int one_d; /* whether they are of a library up to 0.5, which takes one D for all lengths */
 };
 
@@ -20,7 +22,7 @@ struct calls {
 #define CALLS_OF(word)                                                                             \
     {                                                                                              \
         word##_clear, word##_add, word##_withdraw, word##_change, word##_lookup, word##_match_vector, \
-            word##_lookup_list, word##_update, word##_write_withdrawal, 0                          \
+            word##_lookup_list, word##_update, word##_write_withdrawal, word##_import, word##_end_stream, 0 \
     }
 
 #endif

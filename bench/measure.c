@@ -24,6 +24,9 @@ const struct table updated[TABLES] = {
 
 const size_t message_routes[SIZES] = {1, 10, TOLD};
 
+const size_t record_entries[DUMPS] = {1, 20}, chunk_bytes[CHUNKS] = {65536, 4096, 1},
+             stepped_bodies[BODIES] = {100, 1500, 1 << 20};
+
 static const uint32_t a = 0x9e3779b1, b = 0x85ebca6b, c = 0xc2b2ae35;
 
 enum { MOST_ROUTES = 6000 };
@@ -128,6 +131,12 @@ void check_results(const results listed, const answers single)
         check(listed[i].found == (uint32_t)gateway_found(single[i]) && listed[i].hop == gateway_hop(single[i]) &&
                   listed[i].length == gateway_length(single[i]) && listed[i].probes == gateway_probes(single[i]),
               "a list");
+}
+
+void check_counts(const struct gateway_counts *one, const struct gateway_counts *other)
+{
+    check(one->accepted == other->accepted && one->refused == other->refused && one->without_hop == other->without_hop,
+          "counts");
 }
 
 static uint32_t same(uint64_t one, uint64_t other)
@@ -349,6 +358,104 @@ void tell_each(double best[TELLINGS], const struct table *t, const struct memory
         }
     for (const uint64_t *answer = given; answer < at; answer++)
         check(*answer == TOLD / streams[ANNOUNCED].messages, "a message");
+}
+
+/* A dump, record by record. */
+static struct {
+    uint8_t *bytes;
+    size_t size;
+} dump;
+
+static uint8_t *put_four(uint8_t *at, size_t number)
+{
+    return put_two(put_two(at, number >> 16), number & 0xffff);
+}
+
+/* Header: a time, type 13, the subtype, and the length of the body. */
+static uint8_t *put_header(uint8_t *at, size_t subtype, size_t body)
+{
+    at = put_four(at, 1700000000);
+    at = put_two(at, 13);
+    at = put_two(at, subtype);
+    return put_four(at, body);
+}
+
+/* Neighbour, time, attributes. */
+static uint8_t *put_entry(uint8_t *at, size_t neighbour)
+{
+    at = put_two(at, neighbour);
+    at = put_four(at, 1700000000);
+    return put_attributes(at);
+}
+
+/* Sequence number, prefix, entries. */
+static uint8_t *put_route(uint8_t *from, size_t number, const struct route *r, size_t entries)
+{
+    uint8_t *at = put_four(from + 12, number);
+    *at++ = (uint8_t)r->length;
+    for (uint32_t bits = 0; bits < r->length; bits += 8)
+        *at++ = (uint8_t)(r->prefix >> (24 - bits));
+    at = put_two(at, entries);
+    for (size_t i = 0; i < entries; i++)
+        at = put_entry(at, i);
+    put_header(from, 2, (size_t)(at - from) - 12);
+    return at;
+}
+
+static uint8_t *begin_dump(size_t most)
+{
+    free(dump.bytes);
+    return dump.bytes = lend(most);
+}
+
+size_t make_dump(const struct table *t, size_t entries)
+{
+    uint8_t *at = begin_dump(t->routes * (64 + 64 * entries));
+    for (uint32_t i = 0; i < t->routes; i++)
+        at = put_route(at, i, &routes[i], entries);
+    return dump.size = (size_t)(at - dump.bytes);
+}
+
+size_t make_other_dump(size_t body)
+{
+    uint8_t *at = begin_dump(STEPPED + 12 + 2 * body);
+    while (at < dump.bytes + STEPPED) {
+        const size_t size = random_below((uint32_t)(2 * body));
+        at = put_header(at, 1, size) + size;
+    }
+    return dump.size = (size_t)(at - dump.bytes);
+}
+
+void import_each(double *best, const struct table *t, const struct memory *m, const struct calls *calls,
+                 __typeof__(gateway_import) *call, size_t chunk, struct gateway_counts *counts)
+{
+    static struct gateway_stream stream;
+    const int times = dump.size / chunk > MANY_CHUNKS ? 1 : TIMES_IMPORTED;
+    for (int i = 0; i < times; i++) {
+        uint32_t counted[3] = {0, 0, 0};
+        uint64_t refused = CALL(calls, calls->clear, m, WORDS(m));
+        memset(stream.words, 0, sizeof stream.words);
+        double start = nanoseconds();
+        for (size_t at = 0; at < dump.size; at += chunk)
+            refused |= CALL(calls, call, m, WORDS(m), next_hops, (size_t)HOPS, counted, stream.words, stream.room,
+                            dump.bytes + at, dump.size - at < chunk ? dump.size - at : chunk);
+        keep_best(best, start, 1);
+        refused |= calls->end_stream(stream.words);
+        check(refused == 0, "an import");
+        *counts = (struct gateway_counts){counted[0], counted[1], counted[2]};
+    }
+}
+
+void read_each(double *best)
+{
+    uint64_t sum = 0, word;
+    double start = nanoseconds();
+    for (size_t at = 0; at + sizeof word <= dump.size; at += sizeof word) {
+        memcpy(&word, dump.bytes + at, sizeof word);
+        sum += word;
+    }
+    keep_best(best, start, 1);
+    check(sum != 0, "a sum");
 }
 
 void print_table(const struct table *t, uint32_t many)

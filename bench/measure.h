@@ -16,6 +16,12 @@ enum { ADDRESSES = 1000000, TURNS = 100000, ROUNDS = 9, TABLES = 6, SHORT_LIST =
    the tables that are updated: the others have no room for them. */
 enum { TOLD = 500, TIMES_TOLD = 100, SIZES = 3, TOLD_TABLES = 4 };
 
+/* Dumps of so many kinds are imported in chunks of so many sizes, so many times a round, or once if there are many
+   chunks, into the first of the tables that are updated. Records of another kind have bodies of so many sizes, and
+   fill so many bytes. */
+enum { DUMPS = 2, CHUNKS = 3, TIMES_IMPORTED = 10, MANY_CHUNKS = 10000, IMPORT_TABLES = 4 };
+enum { BODIES = 3, STEPPED = 64 << 20 };
+
 /* So many routes are offered, and what the buckets have room for is stored. All lengths have the same D, or each
    has the one that suits its routes, which is printed as '*'. */
 struct table {
@@ -37,6 +43,10 @@ extern const struct table asked[TABLES], updated[TABLES];
 
 /* How many routes a message has. */
 extern const size_t message_routes[SIZES];
+
+/* How many entries a record of a dump has, how many bytes a chunk, and how many the body of a record that is stepped
+   over. */
+extern const size_t record_entries[DUMPS], chunk_bytes[CHUNKS], stepped_bodies[BODIES];
 
 /* What the measured calls answer. */
 typedef uint64_t answers[ADDRESSES];
@@ -79,10 +89,24 @@ double tell(enum telling telling, const struct table *t, const struct memory *m,
 void tell_each(double best[TELLINGS], const struct table *t, const struct memory *m, const struct calls *calls,
                answers given);
 
+/* Makes a dump of the routes that were offered, with so many entries to each, or of records of another kind with
+   bodies of so many bytes on average; answers how many bytes it has. */
+size_t make_dump(const struct table *t, size_t entries);
+size_t make_other_dump(size_t body);
+
+/* Imports the dump in chunks of so many bytes into a table that is cleared each time, by one of the calls that take
+   what an import takes; keeps the best nanoseconds of one time, and what was counted. */
+void import_each(double *best, const struct table *t, const struct memory *m, const struct calls *calls,
+                 __typeof__(gateway_import) *call, size_t chunk, struct gateway_counts *counts);
+
+/* Reads every byte of the dump, and keeps the best nanoseconds. */
+void read_each(double *best);
+
 /* End the program where two that should agree do not. */
 void check(int agrees, const char *what);
 void check_memory(const struct memory *one, const struct memory *other);
 void check_results(const results listed, const answers single);
+void check_counts(const struct gateway_counts *one, const struct gateway_counts *other);
 
 /* Offered and stored routes, K, D, E and S. */
 void print_table(const struct table *t, uint32_t many);

@@ -546,3 +546,158 @@ uint64_t hand_write_withdrawal(uint32_t prefix, uint32_t length, uint8_t *room, 
     memset(room + 22 + octets, 0, 2);
     return 0;
 }
+
+enum { HEADER = 12, MOST_BODY = 65536, MOST_CHUNK = 65536 };
+
+/* Whether a record's header is that of a route: type 13, subtype 2. */
+static inline int is_route(const uint8_t *header)
+{
+    static const uint8_t kind[] = {0, 13, 0, 2};
+    return memcmp(header + 4, kind, sizeof kind) == 0;
+}
+
+static inline size_t body_size(const uint8_t *header)
+{
+    return two_bytes(header + 8) << 16 | two_bytes(header + 10);
+}
+
+/* Checks the body of a record, and adds its route; 0 if it is not well-formed. */
+static inline int do_record(const struct settings *t, uint8_t *counters, size_t counters_bytes,
+                            uint32_t *slots, size_t slots_words, const uint32_t *hops, size_t hops_words,
+                            uint32_t counts[3], const uint8_t *body, size_t size)
+{
+    const uint8_t *end = body + size, *at;
+    uint32_t prefix, length, hop = NO_PLACE;
+    if (size < 5 || body[4] > 32 || size < 7 + octets_of(body[4]))
+        return 0;
+    at = take_prefix(body + 4, &prefix, &length);
+    size_t entries = two_bytes(at);
+    for (at += 2; entries > 0; entries--) {
+        struct parts parts = {.has_hop = 0};
+        if (end - at < 8)
+            return 0;
+        size_t attributes = two_bytes(at + 6);
+        at += 8;
+        if ((size_t)(end - at) < attributes || !attributes_fit(at, at + attributes, &parts))
+            return 0;
+        if (hop == NO_PLACE && parts.has_hop)
+            hop = place_in(hops, hops_words, parts.next_hop);
+        at += attributes;
+    }
+    if (at != end)
+        return 0;
+    if (hop == NO_PLACE)
+        counts[2]++;
+    else if (add(t, counters, counters_bytes, slots, slots_words, prefix, length, hop) == 0)
+        counts[0]++;
+    else
+        counts[1]++;
+    return 1;
+}
+
+/* Takes the bytes of a chunk in runs. In place a record that lies within the chunk is done where it lies; else each is
+   copied into the room first. */
+static inline uint64_t import(const struct settings *t, uint8_t *counters, size_t counters_bytes,
+                              uint32_t *slots, size_t slots_words, const uint32_t *hops,
+                              size_t hops_words, uint32_t counts[3], uint32_t words[3], uint8_t *room,
+                              const uint8_t *chunk, size_t chunk_bytes, int in_place)
+{
+    const uint32_t most_counted = 4000000000u;
+    size_t kept = words[1], left = words[2], at = 0;
+    uint64_t number;
+    if (words[0] != 0)
+        return REFUSED((words[0] - 1) & 0xffff);
+    if (chunk_bytes > MOST_CHUNK || counts[0] > most_counted || counts[1] > most_counted || counts[2] > most_counted)
+        return REFUSED(19);
+    number = refuse_memory(t, counters_bytes, slots_words);
+    if (number != 0)
+        return REFUSED(number);
+    if (left == 0 ? kept >= HEADER : kept < HEADER || kept + left > HEADER + MOST_BODY || !is_route(room))
+        kept = 0;
+    while (at < chunk_bytes) {
+        size_t more = chunk_bytes - at;
+        const uint8_t *record = room;
+        if (left == 0) {
+            /* A header. */
+            if (kept == 0 && more >= HEADER) {
+                if (in_place)
+                    record = chunk + at;
+                else
+                    memcpy(room, chunk + at, HEADER);
+                at += HEADER;
+            } else {
+                size_t taken = more < HEADER - kept ? more : HEADER - kept;
+                memcpy(room + kept, chunk + at, taken);
+                at += taken;
+                kept += taken;
+                if (kept < HEADER)
+                    break;
+            }
+            kept = HEADER;
+            left = body_size(record);
+            more = chunk_bytes - at;
+            if (!is_route(record)) {
+                kept = 0;
+            } else if (left > MOST_BODY) {
+                number = 14;
+                break;
+            } else if (record != room && left <= more) {
+                kept += left;
+                at += left;
+                left = 0;
+            } else if (record != room) {
+                memcpy(room, record, HEADER);
+                record = room;
+            }
+        }
+        if (kept == 0) {
+            /* A record of another kind. */
+            size_t stepped = more < left ? more : left;
+            at += stepped;
+            left -= stepped;
+            continue;
+        }
+        if (left != 0) {
+            size_t taken = more < left ? more : left;
+            memcpy(room + kept, chunk + at, taken);
+            at += taken;
+            kept += taken;
+            left -= taken;
+            if (left != 0)
+                break;
+        }
+        if (!do_record(t, counters, counters_bytes, slots, slots_words, hops, hops_words, counts, record + HEADER,
+                       kept - HEADER)) {
+            number = 12;
+            break;
+        }
+        kept = 0;
+    }
+    words[0] = number == 0 ? 0 : (uint32_t)number + 1;
+    words[1] = number == 0 ? (uint32_t)kept : 0;
+    words[2] = number == 0 ? (uint32_t)left : 0;
+    return REFUSED(number);
+}
+
+#define IMPORT(name, in_place)                                                                     \
+    uint64_t name(uint32_t k, const uint8_t *d, size_t d_count, uint32_t e, uint32_t s, uint32_t a, \
+                  uint32_t b, uint32_t c, uint8_t *counters, size_t counters_bytes, uint32_t *slots, \
+                  size_t slots_words, const uint32_t *hops, size_t hops_words, uint32_t counts[3], \
+                  uint32_t words[3], uint8_t room[65548], const uint8_t *chunk, size_t chunk_bytes) \
+    {                                                                                              \
+        const struct settings t = {k, d, d_count, e, s, a, b, c};                                  \
+        return import(&t, counters, counters_bytes, slots, slots_words, hops, hops_words, counts,  \
+                      words, room, chunk, chunk_bytes, in_place);                                  \
+    }
+
+IMPORT(hand_import, 0)
+IMPORT(hand_import_in_place, 1)
+
+uint64_t hand_end_stream(uint32_t words[3])
+{
+    if (words[0] == 0) {
+        words[0] = words[2] != 0 || (words[1] > 0 && words[1] < HEADER) ? 18 : 1;
+        words[1] = words[2] = 0;
+    }
+    return REFUSED((words[0] - 1) & 0xffff);
+}

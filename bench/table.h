@@ -53,6 +53,22 @@ uint64_t hand_update(uint32_t k, const uint8_t *d, size_t d_count, uint32_t e, u
 
 uint64_t hand_write_withdrawal(uint32_t prefix, uint32_t length, uint8_t *room, size_t room_bytes);
 
+/* Each record is copied into the room, and then checked and done there. */
+uint64_t hand_import(uint32_t k, const uint8_t *d, size_t d_count, uint32_t e, uint32_t s, uint32_t a,
+                     uint32_t b, uint32_t c, uint8_t *counters, size_t counters_bytes, uint32_t *slots,
+                     size_t slots_words, const uint32_t *hops, size_t hops_words, uint32_t counts[3],
+                     uint32_t words[3], uint8_t room[65548], const uint8_t *chunk, size_t chunk_bytes);
+
+/* The same but for the room: a record that lies within one chunk is done where it lies. */
+uint64_t hand_import_in_place(uint32_t k, const uint8_t *d, size_t d_count, uint32_t e, uint32_t s,
+                              uint32_t a, uint32_t b, uint32_t c, uint8_t *counters,
+                              size_t counters_bytes, uint32_t *slots, size_t slots_words,
+                              const uint32_t *hops, size_t hops_words, uint32_t counts[3],
+                              uint32_t words[3], uint8_t room[65548], const uint8_t *chunk,
+                              size_t chunk_bytes);
+
+uint64_t hand_end_stream(uint32_t words[3]);
+
 /* The same answers as of hand_lookup, but a length's filter is asked only when the search gets there. */
 uint64_t hand_lookup_in_turn(uint32_t k, const uint8_t *d, size_t d_count, uint32_t e, uint32_t s,
                              uint32_t a, uint32_t b, uint32_t c, const uint8_t *counters,

@@ -97,12 +97,6 @@ static int accepted(uint32_t refusal)
     return 0;
 }
 
-static void print_address(uint32_t address)
-{
-    printf("%u.%u.%u.%u", (unsigned)(address >> 24), (unsigned)(address >> 16 & 255),
-           (unsigned)(address >> 8 & 255), (unsigned)(address & 255));
-}
-
 static int read_digit(const char **text, unsigned *number)
 {
     static const char digits[] = "0123456789abcdef";
@@ -141,15 +135,8 @@ static int find(const char *at)
     const struct gateway_answer answer = gateway_table_lookup(&table, address);
     if (!accepted(answer.refusal))
         return 0;
-    if (answer.found) {
-        /* Only messages filled the table, so that each of its hops is a place in the list. */
-        print_address(hops[answer.hop]);
-        printf(" by ");
-        print_address(answer.length == 0 ? 0 : address & 0xffffffff << (32 - answer.length));
-        printf("/%u\n", (unsigned)answer.length);
-    } else {
-        printf("none\n");
-    }
+    /* Only messages filled the table, so that each of its hops is a place in the list. */
+    print_answer(address, answer, hops);
     return 1;
 }
 

@@ -1,4 +1,4 @@
-/* Addresses, prefixes and sizes of filters as text, for the examples. Each reader steps past what it has read,
+/* Addresses, prefixes, answers and sizes of filters as text, for the examples. Each reader steps past what it has read,
    and answers 0 where that is not there. */
 #ifndef TEXT_H
 #define TEXT_H
@@ -53,6 +53,25 @@ static inline int read_address(const char **text, uint32_t *address)
 static inline int read_prefix(const char **text, uint32_t *prefix, uint32_t *length)
 {
     return read_address(text, prefix) && skip(text, '/') && read_number(text, UINT32_MAX, length);
+}
+
+static inline void print_address(uint32_t address)
+{
+    printf("%u.%u.%u.%u", (unsigned)(address >> 24), (unsigned)(address >> 16 & 255),
+           (unsigned)(address >> 8 & 255), (unsigned)(address & 255));
+}
+
+/* The next hop of an address, out of the list that its hop is a place in, and the route that it goes by; or "none". */
+static inline void print_answer(uint32_t address, struct gateway_answer answer, const uint32_t *hops)
+{
+    if (!answer.found) {
+        printf("none\n");
+        return;
+    }
+    print_address(hops[answer.hop]);
+    printf(" by ");
+    print_address(answer.length == 0 ? 0 : address & 0xffffffff << (32 - answer.length));
+    printf("/%u\n", (unsigned)answer.length);
 }
 
 /* Shows a text between quotes on standard error; what a terminal might obey is escaped. */

@@ -32,16 +32,34 @@
  *
  *     struct gateway_report report = gateway_table_update(&table, message, size, hops, 2);
  *
+ * Where the routes lie in a file, as route servers dump them (MRT, RFC 6396), fill the table from it chunk by
+ * chunk, each cut wherever a read ends. A stream keeps what is needed between two chunks; zeros begin one. It
+ * has 64 KiB, and so has the chunk here, which is too much for some stacks: make them static.
+ *
+ *     static struct gateway_stream stream;
+ *     static uint8_t chunk[GATEWAY_CHUNK_BYTES];
+ *
+ *     struct gateway_counts counts = {0, 0, 0};
+ *     size_t size;
+ *     while (refusal == GATEWAY_OK && (size = fread(chunk, 1, sizeof chunk, file)) > 0)
+ *         refusal = gateway_table_import(&table, &stream, &counts, hops, 2, chunk, size);
+ *     if (refusal == GATEWAY_OK && !ferror(file))
+ *         refusal = gateway_stream_end(&stream);
+ *
+ * counts then has how many routes were accepted, how many refused, and how many records had no next hop of the
+ * list.
+ *
  * An address or prefix is a 32-bit number with its first octet highest: 10.0.0.0 is 0x0a000000. A
  * route is a prefix, its length (0 to 32, 0 being the default route) and its next hop (0 to 65535).
  *
  * Every call checks what it is given. The first of the GATEWAY_ refusals below whose condition holds
- * is answered, with zero for everything else, and no lent byte or word is changed. What no call can
- * check: each pointer must lead to as much memory as the size beside it says (beside 0 it may be NULL),
- * the lists that a call is lent must not overlap, the words of an update and the list of next hops must be
+ * is answered, with zero for everything else, and no lent byte or word is changed; only a dump may be refused
+ * at a record, with those before it done (gateway_import says how). What no call can check: each pointer must
+ * lead to as much memory as the size beside it says (beside 0 it may be NULL), the lists that a call is lent
+ * must not overlap, the words of an update, of counts and of a stream and the list of next hops must be
  * aligned as uint32_t, and a table must be asked and updated under the settings that it was cleared with,
  * each of the 32 values of d among them. Lookups may run at the same time, those of a list each into results
- * of its own; an update must run alone, and so must a message.
+ * of its own; an update must run alone, and so must a message and a chunk of a dump.
  *
  * What is proved of these calls: whatever a program does with them after an accepted clear is a history
  * (crates/c_promises/proofs/Seat.antt), of which crates/promises/proofs/Promises.antt states every promise;
@@ -109,7 +127,7 @@ extern "C" {
 #endif
 
 /* The version of this header, of its archive and of its pkg-config file; CHANGELOG.md lists the versions. */
-#define GATEWAY_VERSION "0.6.1"
+#define GATEWAY_VERSION "0.7.0"
 
 /* An answer that is not looked at is a refusal that nobody sees: the compiler warns of it. */
 #if defined(__GNUC__)
@@ -118,7 +136,8 @@ extern "C" {
 #define GATEWAY_ANSWERS
 #endif
 
-/* What a call refuses, in the order in which it checks. 6, 11 and 14 to 17 are given by no call. */
+/* What a call refuses, in the order in which it checks; only 19 comes before 1. 6, 11, 15 and 16 are given by no
+   call. */
 enum {
     GATEWAY_OK = 0,
     GATEWAY_BAD_SETTINGS = 1,   /* k, e, s or a value of d is out of its range, or d is not of 32 values */
@@ -131,11 +150,15 @@ enum {
     GATEWAY_BUCKET_FULL = 8,    /* add of a prefix not stored: every slot of its bucket is occupied */
     GATEWAY_COUNTER_FULL = 9,   /* add of a prefix not stored: a counter would pass 15 */
     GATEWAY_COUNTER_SHORT = 10, /* withdraw: a counter would pass below 0; the memory is damaged */
-    GATEWAY_BAD_MESSAGE = 12,   /* message: it is no UPDATE, or not well-formed */
+    GATEWAY_BAD_MESSAGE = 12,   /* message: it is no UPDATE, or not well-formed; dump: the record of a route is
+                                   not well-formed */
     GATEWAY_BAD_NEXT_HOP = 13,  /* message that announces: NEXT_HOP is missing, not in the list of next hops,
                                    or at a place above 65535 there */
-    GATEWAY_BAD_LIST = 18       /* lookup list: no whole addresses, or not four result words to each;
+    GATEWAY_LONG_RECORD = 14,   /* dump: the record of a route has a body above 65536 bytes */
+    GATEWAY_INSIDE_RECORD = 17, /* end of a stream: the last record is not complete */
+    GATEWAY_BAD_LIST = 18,      /* lookup list: no whole addresses, or not four result words to each;
                                    withdrawal: the room is not of exactly the message's size */
+    GATEWAY_BAD_CHUNK = 19      /* dump: the chunk is above 65536 bytes, or a count above 4000000000 */
 };
 
 /* A refusal in words. */
@@ -153,11 +176,14 @@ static inline const char *gateway_refusal_text(uint32_t refusal)
     case GATEWAY_BUCKET_FULL: return "every slot of the bucket is occupied";
     case GATEWAY_COUNTER_FULL: return "a counter would pass 15";
     case GATEWAY_COUNTER_SHORT: return "a counter would pass below 0";
-    case GATEWAY_BAD_MESSAGE: return "the message is no UPDATE, or not well-formed";
+    case GATEWAY_BAD_MESSAGE: return "the message is no UPDATE, or the message or record is not well-formed";
     case GATEWAY_BAD_NEXT_HOP:
         return "routes are announced without a NEXT_HOP, or the list does not have it up to place 65535";
+    case GATEWAY_LONG_RECORD: return "the body of a record is above 65536 bytes";
+    case GATEWAY_INSIDE_RECORD: return "the stream ends inside a record";
     case GATEWAY_BAD_LIST:
         return "the results are not four to each whole address, or the room is not of the message's size";
+    case GATEWAY_BAD_CHUNK: return "the chunk is above 65536 bytes, or a count above 4000000000";
     default: return "unknown refusal";
     }
 }
@@ -231,6 +257,11 @@ static inline size_t gateway_withdrawal_bytes(uint32_t length)
     return length > 32 ? 0 : GATEWAY_WITHDRAWAL_BYTES(length);
 }
 
+/* The most bytes that a chunk of a dump may have, and those that a stream has room for: a record's header of 12
+   bytes and a body of 65536. */
+#define GATEWAY_CHUNK_BYTES 65536
+#define GATEWAY_RECORD_BYTES 65548
+
 /*
  * Multipliers that serve: odd, with bits that follow no pattern, high and low. Buckets and filter
  * positions are the top bits of products with the prefix; 1 as c would put all of 10.0.0.0/8 into one
@@ -291,6 +322,24 @@ struct gateway_report {
     uint32_t refusal;  /* GATEWAY_OK, or as of a lookup, GATEWAY_BAD_MESSAGE or GATEWAY_BAD_NEXT_HOP */
     uint32_t accepted; /* how many of its routes the table took, withdrawn and announced ones */
     uint32_t refused;  /* how many it refused; they are skipped */
+};
+
+/*
+ * What is kept of a dump between two chunks. Zeros in the words begin a stream, whatever the room holds; nothing
+ * else need be set or looked at. Every chunk writes to it, so it is never const. It serves one dump at a time, and
+ * is begun anew for the next. Static memory begins with zeros.
+ */
+struct gateway_stream {
+    uint32_t words[3];
+    uint8_t room[GATEWAY_RECORD_BYTES];
+};
+
+/* What an import counts. All three are zero at first, or go on from another dump; none may be above 4000000000 when
+   a chunk is lent. */
+struct gateway_counts {
+    uint32_t accepted;    /* how many routes the table took */
+    uint32_t refused;     /* how many it refused; they are skipped */
+    uint32_t without_hop; /* how many records had no next hop of the list; they do nothing */
 };
 
 /*
@@ -391,6 +440,44 @@ GATEWAY_ANSWERS uint64_t gateway_update(uint32_t k, const uint8_t *d, size_t d_c
 GATEWAY_ANSWERS uint64_t gateway_write_withdrawal(uint32_t prefix, uint32_t length, uint8_t *room,
                                                   size_t room_bytes);
 
+/*
+ * Takes one chunk of a dump, a file of MRT records (RFC 6396), unpacked. Records of type 13 and subtype 2 are read:
+ * each has one route to an IPv4 prefix. Any other is stepped over, however long it is, those with additional paths
+ * (RFC 8050) among them. A record adds its route, as by gateway_add, as soon as its last byte has come, and counts
+ * it as accepted or refused. Its hop is that of its first entry whose NEXT_HOP stands in hops, the lowest place up
+ * to 65535, as for gateway_update. A record without such an entry adds nothing, and is counted as without a hop.
+ *
+ * A dump may be cut into chunks anywhere. A chunk may be empty, NULL beside 0. Table, counts and the last number
+ * are the same for all cuts. counts are the three of gateway_counts in their order, words and room those of
+ * gateway_stream: leave them as they are between two chunks, and give each chunk the same settings and next hops.
+ *
+ * Of the answer only gateway_refusal is ever other than zero. In this order it is
+ *
+ * - the number that ended the stream, GATEWAY_OK too, if it has ended. Nothing is changed. So begin a stream anew,
+ *   by zeros in its words, after an end, GATEWAY_LONG_RECORD and GATEWAY_BAD_MESSAGE;
+ * - GATEWAY_BAD_CHUNK, if the chunk has more than GATEWAY_CHUNK_BYTES or a count is above 4000000000, then
+ *   GATEWAY_BAD_SETTINGS, then GATEWAY_BAD_SIZE. Nothing is changed, and the import can go on with a better chunk;
+ * - GATEWAY_LONG_RECORD or GATEWAY_BAD_MESSAGE, at the first record of a route that is too long or not well-formed.
+ *   This ends the import. The records before it stay done and counted, those of this chunk too, and nothing that
+ *   follows is done. It is well-formed if the prefix is not longer than 32, the last entry ends where the record
+ *   does, and the attributes of each entry are what those of a message must be.
+ *
+ * Half a record that another kind of call has left in the stream means nothing here: its rest is stepped over.
+ */
+GATEWAY_ANSWERS uint64_t gateway_import(uint32_t k, const uint8_t *d, size_t d_count, uint32_t e, uint32_t s,
+                                        uint32_t a, uint32_t b, uint32_t c, uint8_t *counters,
+                                        size_t counters_bytes, uint32_t *slots, size_t slots_words,
+                                        const uint32_t *hops, size_t hops_words, uint32_t counts[3],
+                                        uint32_t words[3], uint8_t room[GATEWAY_RECORD_BYTES],
+                                        const uint8_t *chunk, size_t chunk_bytes);
+
+/*
+ * Ends a stream after its last chunk. Of the answer only gateway_refusal is ever other than zero: it is the number
+ * that has ended the stream, if one has; else GATEWAY_INSIDE_RECORD if the last record is not complete, one that is
+ * stepped over too. The stream has then ended with this number. What complete records did stays done.
+ */
+GATEWAY_ANSWERS uint64_t gateway_end_stream(uint32_t words[3]);
+
 /* GATEWAY_OK, or why the call was refused; of any call's answer. */
 static inline uint32_t gateway_refusal(uint64_t answer)
 {
@@ -440,7 +527,7 @@ static inline uint32_t gateway_refused(uint64_t answer)
 }
 
 /*
- * The calls on a table, and the message that needs none. They hand on what they are given and take the
+ * The calls on a table, and the two that need none. They hand on what they are given and take the
  * answer apart, which costs nothing. The refusal that they give is GATEWAY_OK or another of the numbers
  * above, as it is.
  */
@@ -539,6 +626,28 @@ GATEWAY_ANSWERS static inline uint32_t
 gateway_withdrawal_message(uint32_t prefix, uint32_t length, uint8_t *room, size_t room_bytes)
 {
     return gateway_refusal(gateway_write_withdrawal(prefix, length, room, room_bytes));
+}
+
+/* Takes one chunk of a dump, as gateway_import says: hops are hops_count addresses, and the counts go up by what the
+   records that are complete with this chunk did. */
+GATEWAY_ANSWERS static inline uint32_t
+gateway_table_import(struct gateway_table *table, struct gateway_stream *stream, struct gateway_counts *counts,
+                     const uint32_t *hops, size_t hops_count, const uint8_t *chunk, size_t chunk_bytes)
+{
+    uint32_t words[3] = {counts->accepted, counts->refused, counts->without_hop};
+    const uint64_t number =
+        gateway_import(GATEWAY_SETTINGS_OF(table), GATEWAY_WORDS_OF(table), hops, hops_count, words,
+                       stream->words, stream->room, chunk, chunk_bytes);
+    counts->accepted = words[0];
+    counts->refused = words[1];
+    counts->without_hop = words[2];
+    return gateway_refusal(number);
+}
+
+/* Ends a stream, as gateway_end_stream says. */
+GATEWAY_ANSWERS static inline uint32_t gateway_stream_end(struct gateway_stream *stream)
+{
+    return gateway_refusal(gateway_end_stream(stream->words));
 }
 
 #undef GATEWAY_SETTINGS_OF

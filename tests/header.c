@@ -4,6 +4,7 @@
 
 #include "check.h"
 
+#include <stddef.h>
 #include <string.h>
 
 /* The list of the header's own example: 256 counters to length 16, 1,024 to length 24, 16 to the others. */
@@ -112,12 +113,27 @@ int main(void)
     CHECK(gateway_refusal(no_message) == GATEWAY_BAD_MESSAGE && gateway_accepted(no_message) == 0);
     CHECK(gateway_refusal((uint64_t)13 << 48) == GATEWAY_BAD_NEXT_HOP && gateway_refused(no_message) == 0);
 
-    for (uint32_t refusal = GATEWAY_OK; refusal <= GATEWAY_COUNTER_SHORT; refusal++)
-        CHECK(gateway_refusal_text(refusal) != gateway_refusal_text(UINT32_MAX));
-    CHECK(gateway_refusal_text(GATEWAY_BAD_MESSAGE) != gateway_refusal_text(UINT32_MAX));
-    CHECK(gateway_refusal_text(GATEWAY_BAD_NEXT_HOP) != gateway_refusal_text(UINT32_MAX));
-    CHECK(gateway_refusal_text(GATEWAY_BAD_LIST) != gateway_refusal_text(UINT32_MAX));
+    /* Each number that is given has a text of its own. */
+    const uint32_t numbers[] = {0, 1, 2, 3, 4, 5, 6, 7, 8, 9, 10, 12, 13, 14, 17, 18, 19};
+    const size_t many = sizeof numbers / sizeof numbers[0];
+    for (size_t i = 0; i < many; i++) {
+        CHECK(strcmp(gateway_refusal_text(numbers[i]), gateway_refusal_text(UINT32_MAX)) != 0);
+        for (size_t j = 0; j < i; j++)
+            CHECK(strcmp(gateway_refusal_text(numbers[i]), gateway_refusal_text(numbers[j])) != 0);
+    }
+    const uint32_t unused[] = {11, 15, 16, 20, 65535};
+    for (size_t i = 0; i < sizeof unused / sizeof unused[0]; i++)
+        CHECK(strcmp(gateway_refusal_text(unused[i]), gateway_refusal_text(UINT32_MAX)) == 0);
     CHECK(GATEWAY_STORED == 6); /* given by no call, and not used anew */
+    CHECK(GATEWAY_BAD_MESSAGE == 12 && GATEWAY_LONG_RECORD == 14 && GATEWAY_INSIDE_RECORD == 17);
+    CHECK(GATEWAY_BAD_LIST == 18 && GATEWAY_BAD_CHUNK == 19);
+
+    /* A stream is three words and room for a header of 12 bytes and a body, with nothing between them. */
+    CHECK(GATEWAY_CHUNK_BYTES == 65536 && GATEWAY_RECORD_BYTES == 12 + 65536);
+    CHECK(sizeof(struct gateway_stream) == 12 + 65548 && offsetof(struct gateway_stream, room) == 12);
+    CHECK(sizeof(struct gateway_counts) == 12);
+    static struct gateway_stream stream;
+    CHECK(stream.words[0] == 0 && stream.words[1] == 0 && stream.words[2] == 0);
 
     /* Four words to a result, with nothing between them. */
     const struct gateway_result results[2] = {{1, 2, 3, 4}, {5, 6, 7, 8}};

@@ -14,10 +14,10 @@
 #include <stdlib.h>
 #include <string.h>
 
-enum kind { CLEAR, ADD, WITHDRAW, CHANGE, VECTOR, LOOKUP, LIST, MESSAGE, WRITE, KINDS };
+enum kind { CLEAR, ADD, WITHDRAW, CHANGE, VECTOR, LOOKUP, LIST, MESSAGE, WRITE, IMPORT, END, KINDS };
 
-static const char *const names[KINDS] = {"clear",  "add",  "withdraw", "change",    "match vector",
-                                         "lookup", "list", "message",  "withdrawal"};
+static const char *const names[KINDS] = {"clear", "add",     "withdraw",   "change", "match vector", "lookup",
+                                         "list",  "message", "withdrawal", "import", "end of a stream"};
 
 static const struct calls library = CALLS_OF(gateway), hand = CALLS_OF(hand);
 
@@ -42,13 +42,17 @@ struct lent {
     struct list d; /* for each call anew */
     struct list counters, slots;
     struct list addresses, results; /* of a list */
-    struct list message, hops;      /* of a message that is read */
+    struct list message, hops;      /* of a message that is read; of a dump, the second too */
     struct list room;               /* for one that is written */
+    struct list counts, words, record; /* of a stream, from one chunk to the next */
+    struct list chunk;                 /* of a dump */
+    int unwritten; /* whether nothing was written to the stream's record but by the library */
 };
 
-enum { ROUTES = 24, MOST_NUMBERS = 19, SMALL = 1 << 14 };
+enum { ROUTES = 24, MOST_NUMBERS = 20, SMALL = 1 << 14, MOST_BYTES = 1 << 17, FRONT = 256 };
 
 static uint64_t given[KINDS][MOST_NUMBERS], routes_accepted, routes_refused;
+static uint64_t dump_accepted, dump_refused, dump_hopless, other_numbers;
 static uint64_t unequal_tables, counts_refused, values_refused;
 static unsigned long long seed;
 static unsigned long table;
@@ -120,6 +124,11 @@ static uint64_t answer(const struct calls *calls, const struct call *c, const st
     case MESSAGE:
         return calls->update(WORDS, m->message.at, m->message.size, (const uint32_t *)(void *)m->hops.at,
                              m->hops.size / 4);
+    case IMPORT:
+        return calls->import(WORDS, (const uint32_t *)(void *)m->hops.at, m->hops.size / 4,
+                             (uint32_t *)(void *)m->counts.at, (uint32_t *)(void *)m->words.at, m->record.at,
+                             m->chunk.at, m->chunk.size);
+    case END: return calls->end_stream((uint32_t *)(void *)m->words.at);
     default: return calls->write_withdrawal(c->asked, c->length, m->room.at, m->room.size);
     }
 }
@@ -142,9 +151,9 @@ static size_t perhaps_wrong(size_t size, uint32_t one_in_so_many)
     }
 }
 
-/* A message that is being made, with room for more than one may have. */
+/* A message or a dump that is being made, with room for more than a message or a record may have. */
 struct bytes {
-    uint8_t at[2 * GATEWAY_MESSAGE_BYTES];
+    uint8_t at[MOST_BYTES];
     size_t size;
 };
 
@@ -242,25 +251,160 @@ static void damage_message(struct bytes *b)
         put_two(b, 16, b->size);
 }
 
-/* A message about the routes, most often a good one, and a list in which its next hop most often stands. */
-static void lend_message(struct lent *by_hand, struct lent *m, const struct call routes[ROUTES])
+/* A list in which the next hops, 0 to 7, most often stand. */
+static void lend_hops(struct lent *by_hand, struct lent *m)
 {
-    static struct bytes message;
-    const uint32_t next_hop = random_below(8);
     size_t many = one_in(8) ? random_below(3) : one_in(300) ? 65530 + random_below(12) : 6 + random_below(12);
-    make_message(&message, routes, next_hop);
-    if (one_in(3))
-        damage_message(&message);
-    by_hand->message = lend(message.size, 0);
-    if (message.size != 0)
-        memcpy(by_hand->message.at, message.at, message.size);
     by_hand->hops = lend(4 * many, 0);
     for (size_t i = 0; i < many; i++) {
         const uint32_t address = many > 65000 && i < many - 6 ? 9 : random_below(8);
         memcpy(by_hand->hops.at + 4 * i, &address, 4);
     }
-    m->message = copy(&by_hand->message, random_below(4));
     m->hops = copy(&by_hand->hops, 0);
+}
+
+/* A message about the routes, most often a good one. */
+static void lend_message(struct lent *by_hand, struct lent *m, const struct call routes[ROUTES])
+{
+    static struct bytes message;
+    make_message(&message, routes, random_below(8));
+    if (one_in(3))
+        damage_message(&message);
+    by_hand->message = lend(message.size, 0);
+    if (message.size != 0)
+        memcpy(by_hand->message.at, message.at, message.size);
+    m->message = copy(&by_hand->message, random_below(4));
+    lend_hops(by_hand, m);
+}
+
+/* The dump that chunks are cut from, and how many of its bytes they have taken. */
+static struct bytes dump;
+static size_t taken;
+
+static void put_many(struct bytes *b, size_t many)
+{
+    while (many-- > 0)
+        put(b, random_word());
+}
+
+/* A route with some entries, each with a next hop of its own. */
+static void put_body(struct bytes *b, const struct call routes[ROUTES])
+{
+    put_many(b, 4);
+    put_prefixes(b, routes, 1);
+    uint32_t entries = one_in(8) ? 0 : one_in(20) ? random_below(40) : 1 + random_below(3);
+    put(b, 0);
+    put(b, entries);
+    for (; entries > 0; entries--) {
+        put_many(b, 8);
+        const size_t from = b->size;
+        put_attributes(b, random_below(8));
+        if (one_in(300))
+            put_attribute(b, 2, 60000 + random_below(5600), 0);
+        put_two(b, from - 2, b->size - from);
+    }
+}
+
+/* A route that is read, most often a good one, or another record. What it says of its length may be wrong. */
+static void put_record(struct bytes *b, const struct call routes[ROUTES])
+{
+    static const uint8_t kinds[][4] = {{0, 13, 0, 1}, {0, 13, 0, 4}, {0, 16, 0, 4}, {0, 12, 0, 2}, {13, 0, 2, 0}};
+    static const uint8_t route[4] = {0, 13, 0, 2};
+    const size_t from = b->size;
+    const int is_route = !one_in(4);
+    put_many(b, 12);
+    if (is_route)
+        put_body(b, routes);
+    else
+        put_many(b, one_in(4) ? 0 : random_below(one_in(8) ? 2000 : 40));
+    size_t size = b->size - from - 12;
+    if (one_in(60))
+        size = one_in(2) ? random_word() : size + random_below(5) - 2;
+    else if (one_in(60))
+        size = 65534 + random_below(5);
+    memcpy(b->at + from + 4, is_route ? route : kinds[random_below(sizeof kinds / sizeof kinds[0])], 4);
+    put_two(b, from + 8, size >> 16);
+    put_two(b, from + 10, size);
+}
+
+static void make_dump(const struct call routes[ROUTES])
+{
+    dump.size = taken = 0;
+    for (uint32_t many = 1 + random_below(12); many > 0 && dump.size < MOST_BYTES / 2; many--)
+        put_record(&dump, routes);
+    if (one_in(8))
+        dump.at[random_below((uint32_t)dump.size)] ^= (uint8_t)(1 << random_below(8));
+}
+
+/* The next bytes of a dump, and zeros where there are not so many. */
+static void lend_chunk(struct lent *by_hand, struct lent *m, const struct call routes[ROUTES])
+{
+    if (taken == dump.size)
+        make_dump(routes);
+    const size_t left = dump.size - taken;
+    size_t size = one_in(5) ? random_below(3) : one_in(3) ? random_below(40) : one_in(4) ? left : random_below(2000);
+    if (one_in(80))
+        size = GATEWAY_CHUNK_BYTES + random_below(3);
+    else if (size > left)
+        size = left;
+    by_hand->chunk = lend(size, 0);
+    const size_t told = size < left ? size : left;
+    if (told != 0)
+        memcpy(by_hand->chunk.at, dump.at + taken, told);
+    if (told != size)
+        memset(by_hand->chunk.at + told, 0, size - told);
+    taken += told;
+    m->chunk = copy(&by_hand->chunk, random_below(4));
+    lend_hops(by_hand, m);
+}
+
+/* A stream that begins, and counts. Room that was not written to may not be looked at before. */
+static void lend_stream(struct lent *by_hand, struct lent *m)
+{
+    struct list *const lists[] = {&by_hand->counts, &by_hand->words, &m->counts, &m->words};
+    for (size_t i = 0; i < sizeof lists / sizeof lists[0]; i++) {
+        *lists[i] = lend(3 * sizeof(uint32_t), 4 * random_below(4));
+        memset(lists[i]->at, 0, lists[i]->size);
+    }
+    by_hand->record = lend(GATEWAY_RECORD_BYTES, random_below(4));
+    m->record = lend(GATEWAY_RECORD_BYTES, random_below(4));
+    memset(by_hand->record.at, (int)random_below(256), by_hand->record.size);
+    m->unwritten = one_in(2);
+    if (!m->unwritten)
+        memcpy(m->record.at, by_hand->record.at, m->record.size);
+}
+
+/* A number at which what a word or a count means changes, or any. */
+static uint32_t odd_number(void)
+{
+    static const uint32_t some[] = {0,     1,     11,    12,    13,          18,          65535,
+                                    65536, 65537, 65548, 65549, 4000000000u, 4000000001u, UINT32_MAX};
+    return one_in(4) ? random_word() : some[random_below(sizeof some / sizeof some[0])];
+}
+
+/* Begins a stream anew, most often, where it has ended or steps over more bytes than a dump has here; and seldom puts
+   other numbers into the words and counts. */
+static void change_stream(const struct lent *by_hand, const struct lent *m)
+{
+    uint32_t words[3], counts[3];
+    memcpy(words, by_hand->words.at, sizeof words);
+    memcpy(counts, by_hand->counts.at, sizeof counts);
+    if ((words[0] != 0 || words[2] > MOST_BYTES) && !one_in(4))
+        memset(words, 0, sizeof words);
+    if (one_in(20))
+        words[m->unwritten ? 0 : random_below(3)] = odd_number();
+    if (one_in(30) && !m->unwritten) {
+        /* A record that just has room, or just has not. */
+        words[0] = 0;
+        words[1] = 11 + random_below(GATEWAY_CHUNK_BYTES);
+        words[2] = GATEWAY_RECORD_BYTES - 1 + random_below(3) - words[1];
+    }
+    if (one_in(10))
+        counts[random_below(3)] = one_in(2) ? 0 : odd_number();
+    memcpy(by_hand->words.at, words, sizeof words);
+    memcpy(m->words.at, words, sizeof words);
+    memcpy(by_hand->counts.at, counts, sizeof counts);
+    memcpy(m->counts.at, counts, sizeof counts);
 }
 
 /* Room that may hold anything. */
@@ -298,6 +442,10 @@ static void lend_others(struct lent *by_hand, struct lent *m, const struct call 
         lend_message(by_hand, m, routes);
     else if (c->kind == WRITE)
         lend_room(by_hand, m, c);
+    else if (c->kind == IMPORT)
+        lend_chunk(by_hand, m, routes);
+    if (c->kind == IMPORT || c->kind == END)
+        change_stream(by_hand, m);
 }
 
 static void take_back(const struct list *list)
@@ -312,6 +460,14 @@ static void take_back_others(const struct lent *m)
     take_back(&m->message);
     take_back(&m->hops);
     take_back(&m->room);
+    take_back(&m->chunk);
+}
+
+static void take_back_stream(const struct lent *m)
+{
+    take_back(&m->counts);
+    take_back(&m->words);
+    take_back(&m->record);
 }
 
 /* Lends a list anew, with nothing written to it: what it held is not needed. */
@@ -339,9 +495,37 @@ static int has_bad_value(const struct call *c)
     return c->d_count == GATEWAY_LENGTHS && gateway_counters_bytes(c->d, c->d_count) == 0;
 }
 
+/* What a stream keeps: words, counts, and the record as far as it has come. Where all of its room was written to, the
+   rest of that is held too, most often only the first bytes of it. */
+static void check_stream(const struct lent *by_hand, const struct lent *m, const struct call *c)
+{
+    uint32_t words[3];
+    memcpy(words, by_hand->words.at, sizeof words);
+    check_lists(&m->words, &by_hand->words, c, "list of words");
+    check_lists(&m->counts, &by_hand->counts, c, "list of counts");
+    const size_t kept = words[0] != 0 || words[1] > m->record.size ? 0 : words[1];
+    const size_t all = one_in(32) ? m->record.size : FRONT, held = m->unwritten || kept > all ? kept : all;
+    check(memcmp(m->record.at, by_hand->record.at, held) == 0, c, "room of the stream");
+}
+
+/* What the chunks of dumps count from here on. */
+static void note_counts(const struct lent *by_hand, const uint32_t before[3])
+{
+    uint32_t counts[3];
+    memcpy(counts, by_hand->counts.at, sizeof counts);
+    dump_accepted += counts[0] - before[0];
+    dump_refused += counts[1] - before[1];
+    dump_hopless += counts[2] - before[2];
+}
+
 /* Makes a call of both. What by_hand is lent holds the same, but that m may lack what no answer needs. */
 static void compare(const struct call *c, struct lent *by_hand, struct lent *m)
 {
+    uint32_t words[3] = {0, 0, 0}, counts[3] = {0, 0, 0};
+    if (c->kind == IMPORT) {
+        memcpy(words, by_hand->words.at, sizeof words);
+        memcpy(counts, by_hand->counts.at, sizeof counts);
+    }
     lend_filters(by_hand, m, c);
     const uint64_t ours = answer(&hand, c, by_hand);
     const uint32_t refusal = gateway_refusal(ours);
@@ -356,10 +540,19 @@ static void compare(const struct call *c, struct lent *by_hand, struct lent *m)
         if (unread)
             forget(&m->message);
     }
+    const int untaken = c->kind == IMPORT && (words[0] != 0 || unread || refusal == GATEWAY_BAD_CHUNK);
+    if (untaken) {
+        forget(&m->hops);
+        forget(&m->chunk);
+    }
     const uint64_t theirs = answer(&library, c, m);
     check(theirs == ours, c, "answer");
-    check(refusal < MOST_NUMBERS, c, "number");
-    given[c->kind][refusal]++;
+    /* Any number may stand in the words of a stream as the one that ended it. */
+    check(refusal < MOST_NUMBERS || c->kind == IMPORT || c->kind == END, c, "number");
+    if (refusal < MOST_NUMBERS)
+        given[c->kind][refusal]++;
+    else
+        other_numbers++;
     if (refusal == GATEWAY_BAD_SETTINGS) {
         counts_refused += c->d_count != GATEWAY_LENGTHS;
         values_refused += has_bad_value(c);
@@ -379,6 +572,14 @@ static void compare(const struct call *c, struct lent *by_hand, struct lent *m)
         check_lists(&m->message, &by_hand->message, c, "message");
         if (refusal != GATEWAY_BAD_MESSAGE)
             check_lists(&m->hops, &by_hand->hops, c, "list of next hops");
+    }
+    if (c->kind == IMPORT || c->kind == END)
+        check_stream(by_hand, m, c);
+    if (c->kind == IMPORT)
+        note_counts(by_hand, counts);
+    if (c->kind == IMPORT && !untaken) {
+        check_lists(&m->chunk, &by_hand->chunk, c, "chunk");
+        check_lists(&m->hops, &by_hand->hops, c, "list of next hops");
     }
 }
 
@@ -460,6 +661,8 @@ static void call_wrongly(struct call c, const struct call routes[ROUTES])
         m.counters = copy(&by_hand.counters, 0);
         m.slots = copy(&by_hand.slots, asks(&c) ? random_below(4) : 0);
     }
+    if (c.kind == IMPORT)
+        lend_stream(&by_hand, &m);
     lend_others(&by_hand, &m, &c, routes);
     compare(&c, &by_hand, &m);
     if (refusal == GATEWAY_OK) {
@@ -471,6 +674,8 @@ static void call_wrongly(struct call c, const struct call routes[ROUTES])
         take_back(all[i]);
     take_back_others(&by_hand);
     take_back_others(&m);
+    take_back_stream(&by_hand);
+    take_back_stream(&m);
 }
 
 /* A call of a table. The library gets blocks of their own for lists, for slots that begin at an odd address,
@@ -500,8 +705,8 @@ static void call_rightly(const struct call *c, struct lent by_hand, struct lent 
 /* Which calls are made how often. */
 static enum kind random_kind(void)
 {
-    static const enum kind kinds[] = {ADD,    ADD,    ADD,    ADD,  WITHDRAW, WITHDRAW, CHANGE,
-                                      VECTOR, LOOKUP, LOOKUP, LIST, MESSAGE,  MESSAGE,  WRITE};
+    static const enum kind kinds[] = {ADD,  ADD,     ADD,     ADD,   WITHDRAW, WITHDRAW, CHANGE, VECTOR, LOOKUP, LOOKUP,
+                                      LIST, MESSAGE, MESSAGE, WRITE, IMPORT,   IMPORT,   IMPORT, IMPORT, END};
     return one_in(50) ? CLEAR : kinds[random_below(sizeof kinds / sizeof kinds[0])];
 }
 
@@ -540,6 +745,8 @@ static void run_table(void)
         m.slots = lend(by_hand.slots.size, 0);
         compare(&c, &by_hand, &m);
     }
+    lend_stream(&by_hand, &m);
+    make_dump(routes);
     for (int i = 0; i < 100; i++) {
         const struct call *route = &routes[random_below(ROUTES)];
         c.kind = random_kind();
@@ -550,7 +757,7 @@ static void run_table(void)
             c.asked |= random_word() >> random_below(32);
         if (!large && one_in(100))
             damage(&by_hand, &m);
-        if (one_in(8) && c.kind != WRITE)
+        if (one_in(8) && c.kind != WRITE && c.kind != END)
             call_wrongly(c, routes);
         else
             call_rightly(&c, by_hand, m, routes);
@@ -561,12 +768,14 @@ static void run_table(void)
     take_back(&by_hand.slots);
     take_back(&m.counters);
     take_back(&m.slots);
+    take_back_stream(&by_hand);
+    take_back_stream(&m);
 }
 
 /* Says what was met, and ends in failure where a number was not. */
 static int tell(void)
 {
-    static const int numbers[] = {0, 1, 2, 3, 4, 5, 7, 8, 9, 10, 12, 13, 18};
+    static const int numbers[] = {0, 1, 2, 3, 4, 5, 7, 8, 9, 10, 12, 13, 14, 17, 18, 19};
     int narrow = 0;
     uint64_t calls = 0;
     for (size_t i = 0; i < sizeof numbers / sizeof numbers[0]; i++) {
@@ -579,15 +788,22 @@ static int tell(void)
         calls += times;
     }
     for (int kind = 0; kind < KINDS; kind++)
-        narrow |= given[kind][0] == 0 || (kind != WRITE && (given[kind][1] == 0 || given[kind][2] == 0));
+        narrow |= given[kind][0] == 0 ||
+                  (kind != WRITE && kind != END && (given[kind][1] == 0 || given[kind][2] == 0));
     narrow |= given[LIST][18] == 0 || given[WRITE][18] == 0 || routes_accepted == 0 || routes_refused == 0;
+    narrow |= given[IMPORT][12] == 0 || given[IMPORT][14] == 0 || given[IMPORT][19] == 0 || given[END][17] == 0;
+    narrow |= dump_accepted == 0 || dump_refused == 0 || dump_hopless == 0;
     narrow |= unequal_tables == 0 || counts_refused == 0 || values_refused == 0;
     printf("  lists of D: %llu tables with unequal ones, %llu refused for their count, %llu for a value\n",
            (unsigned long long)unequal_tables, (unsigned long long)counts_refused,
            (unsigned long long)values_refused);
     printf("  routes of messages: %llu accepted, %llu refused\n", (unsigned long long)routes_accepted,
            (unsigned long long)routes_refused);
-    printf("%llu calls on %lu tables, every answer and byte agrees\n", (unsigned long long)calls, table);
+    printf("  records of dumps: %llu accepted, %llu refused, %llu without a hop\n", (unsigned long long)dump_accepted,
+           (unsigned long long)dump_refused, (unsigned long long)dump_hopless);
+    printf("  streams ended by any other number: %llu\n", (unsigned long long)other_numbers);
+    printf("%llu calls on %lu tables, every answer and byte agrees\n", (unsigned long long)(calls + other_numbers),
+           table);
     if (narrow)
         printf("lent: too narrow a run: a call was never accepted, or a number never given\n");
     return narrow;
