@@ -5,11 +5,14 @@
  *
  *     host FILE SIZE
  *
- * A request is seventeen numbers of 64 bits: the call, k, where the values of d begin in the file and how
+ * A request is twenty numbers of 64 bits: the call, k, where the values of d begin in the file and how
  * many are lent, e, s, a, b, c, where the counters begin and how many are lent, the same of the slots, then
  * what the call has beside them: for a list where its addresses begin and how many bytes they have, and the
  * same of its results; for a message the same of its bytes and of the words of its next hops; for a
- * withdrawal to be written prefix and length, and the same of its room. An answer is one such number.
+ * withdrawal to be written prefix and length, and the same of its room; for an import the same of its chunk
+ * and of the words of its next hops, and where the counts, the words and the room of its stream begin; for the
+ * end of a stream where its words begin, the sixth of these. What a call does not have is zero. An answer is
+ * one such number.
  */
 #define _XOPEN_SOURCE 600
 
@@ -24,9 +27,11 @@
 #include <sys/time.h>
 #include <unistd.h>
 
-enum { CLEAR, ADD, WITHDRAW, CHANGE, VECTOR, LOOKUP, LOOKUP_LIST, UPDATE, WRITE_WITHDRAWAL };
+enum {
+    CLEAR, ADD, WITHDRAW, CHANGE, VECTOR, LOOKUP, LOOKUP_LIST, UPDATE, WRITE_WITHDRAWAL, IMPORT, END_STREAM
+};
 
-enum { NUMBERS = 17, SECONDS_TO_END = 20, CALLS_BETWEEN = 256 };
+enum { NUMBERS = 20, SECONDS_TO_END = 20, CALLS_BETWEEN = 256 };
 
 static void fail(const char *what)
 {
@@ -35,8 +40,13 @@ static void fail(const char *what)
 }
 
 #define SETTINGS k, memory + n[2], n[3], e, s, a, b, c
-#define WORDS SETTINGS, counters, n[10], (uint32_t *)(void *)slots, n[12]
+#define WORDS SETTINGS, counters, n[10], words_at(slots, 0), n[12]
 #define BYTES SETTINGS, counters, n[10], slots, n[12]
+
+static uint32_t *words_at(uint8_t *memory, uint64_t place)
+{
+    return (uint32_t *)(void *)(memory + place);
+}
 
 static uint64_t answer(uint8_t *memory, const uint64_t n[NUMBERS])
 {
@@ -52,9 +62,12 @@ static uint64_t answer(uint8_t *memory, const uint64_t n[NUMBERS])
     case VECTOR: return gateway_match_vector(BYTES, asked);
     case LOOKUP: return gateway_lookup(BYTES, asked);
     case LOOKUP_LIST: return gateway_lookup_list(BYTES, memory + n[13], n[14], memory + n[15], n[16]);
-    case UPDATE:
-        return gateway_update(WORDS, memory + n[13], n[14], (const uint32_t *)(void *)(memory + n[15]), n[16]);
+    case UPDATE: return gateway_update(WORDS, memory + n[13], n[14], words_at(memory, n[15]), n[16]);
     case WRITE_WITHDRAWAL: return gateway_write_withdrawal(asked, length, memory + n[15], n[16]);
+    case IMPORT:
+        return gateway_import(WORDS, words_at(memory, n[15]), n[16], words_at(memory, n[17]),
+                              words_at(memory, n[18]), memory + n[19], memory + n[13], n[14]);
+    case END_STREAM: return gateway_end_stream(words_at(memory, n[18]));
     default: errno = EINVAL; fail("an unknown call"); return 0;
     }
 }

@@ -1,5 +1,7 @@
 //! The calls as a driver makes them: which numbers and lists go in. No rule stands here.
 
+use std::rc::Rc;
+
 /// The list of filter sizes that a caller lends: any bytes, at most 40 of them here.
 #[derive(Clone, Copy, Debug, PartialEq, Eq)]
 pub struct Sizes {
@@ -97,6 +99,36 @@ pub struct Writing {
     pub offset: usize,
 }
 
+/// Where the counts, the words and the room of a stream begin, in bytes after their places.
+#[derive(Clone, Copy, Debug)]
+pub struct StreamOffsets {
+    pub counts: usize,
+    pub words: usize,
+    pub room: usize,
+}
+
+/// A chunk of a dump, which begins so many bytes after a word's address, and the list of next hops, which begins
+/// so many words after its place.
+#[derive(Clone, Debug)]
+pub struct Import {
+    pub chunk: Vec<u8>,
+    pub offset: usize,
+    pub hops: Rc<[u32]>,
+    pub hops_offset: usize,
+    /// What the stream holds before the call, but of its room the header alone, and where it lies.
+    pub counts: [u32; 3],
+    pub words: [u32; 3],
+    pub header: [u8; 12],
+    pub offsets: StreamOffsets,
+}
+
+/// The end of a stream whose words are these before the call. No table is lent.
+#[derive(Clone, Debug)]
+pub struct End {
+    pub words: [u32; 3],
+    pub offsets: StreamOffsets,
+}
+
 /// A call of any kind.
 #[derive(Clone, Copy)]
 pub enum AnyCall<'a> {
@@ -104,15 +136,17 @@ pub enum AnyCall<'a> {
     List(&'a List),
     Message(&'a Message),
     Writing(&'a Writing),
+    Import(&'a Import),
+    End(&'a End),
 }
 
 impl AnyCall<'_> {
-    /// As above; a list is a question too, and a message an update.
+    /// As above; a list is a question too, a message and a chunk are updates.
     pub fn units(&self) -> usize {
         match self {
             AnyCall::One(call) => call.units(),
             AnyCall::List(_) => 4,
-            AnyCall::Message(_) | AnyCall::Writing(_) => 1,
+            AnyCall::Message(_) | AnyCall::Writing(_) | AnyCall::Import(_) | AnyCall::End(_) => 1,
         }
     }
 }
@@ -138,6 +172,18 @@ impl<'a> From<&'a Message> for AnyCall<'a> {
 impl<'a> From<&'a Writing> for AnyCall<'a> {
     fn from(writing: &'a Writing) -> Self {
         AnyCall::Writing(writing)
+    }
+}
+
+impl<'a> From<&'a Import> for AnyCall<'a> {
+    fn from(import: &'a Import) -> Self {
+        AnyCall::Import(import)
+    }
+}
+
+impl<'a> From<&'a End> for AnyCall<'a> {
+    fn from(end: &'a End) -> Self {
+        AnyCall::End(end)
     }
 }
 

@@ -1,6 +1,7 @@
 //! Random histories. A seed and a number fix a history, so that a failing one can be replayed.
 
 use crate::calls::{AnyCall, Call, Lent, Message, Settings, Sizes};
+use crate::feeding::{ended, Feeding};
 use crate::library::{Area, Library, MARGIN};
 use crate::other_sizes::{self, Kind, KINDS};
 use crate::pair::{Difference, Pair};
@@ -41,15 +42,18 @@ const MOST_ROUTES: usize = 4000;
 /// So many histories of a hundred bring counters to 15 and keep them there.
 const CROWDED: usize = 12;
 
-/// So many calls of a thousand have a list of addresses, have a message, or write a withdrawal.
+/// So many calls of a thousand have a list of addresses, have a message, write a withdrawal, or go on with a dump.
 const LISTS: usize = 15;
 const MESSAGES: usize = 10;
 const WRITINGS: usize = 5;
+const IMPORTS: usize = 10;
 
-/// One history of so many, the first of all among them, has more of the last two: so many.
+/// One history of so many, the first of all among them, has more messages and withdrawals, so many, and one, the
+/// second of all among them, goes on with a dump oftener.
 const TALKATIVE: u64 = 8;
 const TALKATIVE_MESSAGES: usize = 500;
 const TALKATIVE_WRITINGS: usize = 100;
+const TALKATIVE_IMPORTS: usize = 600;
 
 /// So many calls of a history have a list of sizes, or counters, that are others than its table's. Over the
 /// histories each of the calls has each kind of them in turn.
@@ -65,16 +69,19 @@ pub struct Manner {
     pub show: bool,
 }
 
-struct History<'a> {
-    library: &'a mut Library,
-    random: Random,
+pub struct History<'a> {
+    pub library: &'a mut Library,
+    pub random: Random,
     manner: Manner,
-    tally: &'a mut Tally,
-    t: Settings,
-    pool: Vec<(u32, u32)>,
+    pub tally: &'a mut Tally,
+    pub t: Settings,
+    pub pool: Vec<(u32, u32)>,
     adds: usize,
     messages: usize,
     writings: usize,
+    imports: usize,
+    /// The dump whose stream the table has, if one has begun.
+    pub feeding: Option<Feeding>,
     /// Which of the calls with other sizes is next.
     other_sizes: usize,
     /// The lengths of which a route was added after the clear, the lowest bit for length 1.
@@ -96,15 +103,29 @@ pub fn run(
     let t = settings(&mut random, crowded, &few);
     let pool = pool(&mut random, crowded, &few);
     let adds = random.pick(&[35, 50, 65, 80]);
-    let (messages, writings) = match history % TALKATIVE {
-        0 => (TALKATIVE_MESSAGES, TALKATIVE_WRITINGS),
-        _ => (MESSAGES, WRITINGS),
+    let (messages, writings, imports) = match history % TALKATIVE {
+        0 => (TALKATIVE_MESSAGES, TALKATIVE_WRITINGS, IMPORTS),
+        1 => (MESSAGES, WRITINGS, TALKATIVE_IMPORTS),
+        _ => (MESSAGES, WRITINGS, IMPORTS),
     };
     tally.histories += 1;
-    let other_sizes = history as usize % (WITH_SETTINGS * KINDS.len()) * OTHER_SIZES;
-    let (lengths, made) = (0, 0);
-    History { library, random, manner, tally, t, pool, adds, messages, writings, other_sizes, lengths, made }
-        .run()
+    let history = History {
+        library,
+        random,
+        manner,
+        tally,
+        t,
+        pool,
+        adds,
+        messages,
+        writings,
+        imports,
+        feeding: None,
+        other_sizes: history as usize % (WITH_SETTINGS * KINDS.len()) * OTHER_SIZES,
+        lengths: 0,
+        made: 0,
+    };
+    history.run()
 }
 
 /// Settings over their whole ranges, the small tables oftener.
@@ -167,7 +188,7 @@ fn pool(random: &mut Random, crowded: bool, few: &[u32]) -> Vec<(u32, u32)> {
 }
 
 /// What a message's routes are drawn from.
-fn source<'a>(pool: &'a [(u32, u32)], pair: &'a Pair) -> Source<'a> {
+pub fn source<'a>(pool: &'a [(u32, u32)], pair: &'a Pair) -> Source<'a> {
     Source { pool, stored: pair.routes.as_ref().map_or(&[], |routes| routes.list()) }
 }
 
@@ -215,11 +236,12 @@ impl History<'_> {
                 self.other_sizes_calls(&mut pair, damaged)?;
             }
             let chance = self.random.below(1000);
-            if chance < LISTS + self.messages + self.writings {
+            if chance < LISTS + self.messages + self.writings + self.imports {
                 match chance {
                     0..LISTS => self.list_call(&mut pair, damaged)?,
                     _ if chance < LISTS + self.messages => self.message_call(&mut pair, damaged)?,
-                    _ => self.write(&mut pair)?,
+                    _ if chance < LISTS + self.messages + self.writings => self.write(&mut pair)?,
+                    _ => self.go_on(&mut pair, damaged)?,
                 }
                 continue;
             }
@@ -268,7 +290,7 @@ impl History<'_> {
         self.call_with(pair, &t, lent, call)
     }
 
-    fn call_with<'a>(
+    pub fn call_with<'a>(
         &mut self,
         pair: &mut Pair,
         t: &Settings,
@@ -289,6 +311,8 @@ impl History<'_> {
             }
             AnyCall::Message(message) => (None, pair.call_message(self.library, t, lent, message)),
             AnyCall::Writing(writing) => (None, pair.write(self.library, writing)),
+            AnyCall::Import(import) => (None, pair.call_import(self.library, t, lent, import)),
+            AnyCall::End(end) => (None, pair.end_stream(self.library, end)),
         };
         let answer = answered.map_err(|difference| self.failure(t, lent, call, difference))?;
         if self.manner.show {
@@ -297,6 +321,15 @@ impl History<'_> {
         let kinds = other_sizes::met(&self.t, pair.lent(call), t, lent);
         let counted = self.tally.count(call, kinds, answer);
         counted.map_err(|difference| self.failure(t, lent, call, difference))?;
+        match call {
+            AnyCall::Import(import) => {
+                let right = pair.lent(call);
+                let wrong = *t != self.t || lent.counters != right.counters || lent.slots != right.slots;
+                self.tally.imports.count(import, wrong, answer, pair.stream.held());
+            }
+            AnyCall::End(end) => self.tally.imports.count_end(end, answer),
+            _ => {}
+        }
         if let (AnyCall::One(Call::Add { length: length @ 1.., .. }), 0, true) =
             (call, answer, pair.routes.is_some())
         {
@@ -316,7 +349,7 @@ impl History<'_> {
         asked.map_err(|difference| self.failure(&self.t, pair.lent(call), call, difference))
     }
 
-    fn failure<'a>(
+    pub fn failure<'a>(
         &self,
         t: &Settings,
         lent: Lent,
@@ -461,6 +494,11 @@ impl History<'_> {
         let (address, hop) = (self.random_address(), self.random.pick(&HOPS));
         let list = random_lists::list(&mut self.random, |_| address);
         let message = random_messages::message(&mut self.random, &source(&self.pool, pair), false);
+        if call == 8 && (self.feeding.is_none() || ended(&pair.stream)) {
+            self.begin_dump(pair, false);
+        }
+        let chunk = self.feeding.as_ref().map_or(Vec::new(), |feeding| feeding.chunk(&mut self.random));
+        let import = self.import(pair, chunk);
         let call = match call {
             0 => AnyCall::One(Call::Clear),
             1 => AnyCall::One(Call::Add { prefix, length, hop }),
@@ -469,11 +507,17 @@ impl History<'_> {
             4 => AnyCall::One(Call::Vector { address }),
             5 => AnyCall::One(Call::Lookup { address }),
             6 => AnyCall::List(&list),
-            _ => AnyCall::Message(&message),
+            7 => AnyCall::Message(&message),
+            _ => AnyCall::Import(&import),
         };
         let (mut t, mut lent) = (self.t, pair.lent(call));
         other_sizes::make(&mut self.random, kind, &mut t, &mut lent);
-        self.call_with(pair, &t, lent, call)?;
+        let refusal = self.call_with(pair, &t, lent, call)? >> 48;
+        if let (AnyCall::Import(_), Some(feeding), false) =
+            (call, &mut self.feeding, matches!(refusal, 1 | 2 | 19))
+        {
+            feeding.went(import.chunk.len());
+        }
         Ok(())
     }
 
@@ -492,7 +536,7 @@ impl History<'_> {
     }
 
     /// Spoils the settings or what is lent of the table; false if it leaves both.
-    fn spoil_table(&mut self, right: Lent, t: &mut Settings, lent: &mut Lent) -> bool {
+    pub fn spoil_table(&mut self, right: Lent, t: &mut Settings, lent: &mut Lent) -> bool {
         match self.random.below(5) {
             0 => self.spoil_settings(t),
             1 => lent.counters = self.spoil_counters(right.counters),
@@ -551,7 +595,7 @@ impl History<'_> {
     }
 
     /// Other settings that ask for the same memory. Only damaged tables see them.
-    fn other_settings(&mut self) -> Settings {
+    pub fn other_settings(&mut self) -> Settings {
         let mut t = self.t;
         match self.random.below(5) {
             0 => t.k = self.random.within(1, 8),

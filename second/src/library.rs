@@ -2,7 +2,8 @@
 //! the same memory, so that what the library writes is seen here, and a call that brings that process
 //! down is told as any other difference.
 
-use crate::calls::{AnyCall, Call, Lent, Settings, Sizes, Writing};
+use crate::calls::{AnyCall, Call, End, Import, Lent, Settings, Sizes, Writing};
+use crate::record_draft::{HEADER, MOST_BODY};
 use std::fs::{self, File, OpenOptions};
 use std::io::{self, Read, Write};
 use std::os::fd::AsRawFd;
@@ -23,11 +24,15 @@ const MOST_SLOTS: usize = 64 * (1 << 8) * 8 + 1 + 2 * MARGIN;
 const AREA: usize = (MOST_COUNTERS + 4 * MOST_SLOTS).next_multiple_of(4096);
 const AREAS: usize = 3;
 
-/// How many addresses the longest list has, how many bytes the longest message, and how many words the
-/// longest list of next hops.
+/// How many addresses the longest list has, how many bytes the longest message and the longest chunk, and how
+/// many words the longest list of next hops.
 pub const MOST_LISTED: usize = 5000;
 pub const MOST_MESSAGE: usize = 65_536 + 4096;
+pub const MOST_CHUNK: usize = 2 * 65_536;
 pub const MOST_HOPS: usize = 65_536 + 512;
+
+/// The bytes of a stream's room.
+pub const ROOM: usize = HEADER + MOST_BODY;
 
 /// What a call is lent beside its table: the list of the filters' sizes, and what else it has.
 #[derive(Clone, Copy)]
@@ -38,14 +43,21 @@ pub enum Beside {
     Message,
     Hops,
     Room,
+    Chunk,
+    Counts,
+    Words,
+    StreamRoom,
 }
 
 /// Room for the largest of them, with its margins and a few bytes more. A list's results may be twice as many
-/// as it needs.
+/// as it needs, and each area has a stream of its own.
 const BESIDE: usize = (4 * MOST_HOPS + 3 * MARGIN).next_multiple_of(4096);
 
+/// So many bytes after that of the area before it begins what is lent of an area's stream.
+pub const STREAM: usize = (ROOM + 3 * MARGIN).next_multiple_of(4096);
+
 /// Where the memory ends, with the last of them.
-const END: usize = AREAS * AREA + (Beside::Room as usize + 1) * BESIDE;
+const END: usize = AREAS * AREA + (Beside::StreamRoom as usize + 1) * BESIDE;
 
 /// Where a table lies in the memory that is lent: an old table, one that is built beside it, or a copy
 /// whose slots do not begin at a word's address.
@@ -184,15 +196,31 @@ impl Library {
                 let [room, size] = [place(Beside::Room, MARGIN + offset), room.len()].map(|n| n as u64);
                 (8, [u64::from(*prefix), u64::from(*length), room, size])
             }
+            AnyCall::Import(Import { chunk, offset, hops, hops_offset, .. }) => {
+                let bytes = place(Beside::Chunk, MARGIN + offset);
+                let words = place(Beside::Hops, MARGIN + 4 * hops_offset);
+                (9, [bytes, chunk.len(), words, hops.len()].map(|n| n as u64))
+            }
+            AnyCall::End(_) => (10, [0; 4]),
+        };
+        let stream = match call {
+            AnyCall::Import(Import { offsets, .. }) => [
+                place(Beside::Counts, MARGIN + offsets.counts),
+                place(Beside::Words, MARGIN + offsets.words),
+                place(Beside::StreamRoom, MARGIN + offsets.room),
+            ],
+            AnyCall::End(End { offsets, .. }) => [0, place(Beside::Words, MARGIN + offsets.words), 0],
+            _ => [0; 3],
         };
         let counters = area as usize * AREA + MARGIN;
         let slots = area as usize * AREA + MOST_COUNTERS + 4 * MARGIN + offsets.slots;
         let sizes = [place(Beside::Sizes, MARGIN + offsets.sizes), t.d.values().len()].map(|n| n as u64);
         let others = [t.e, t.s, t.a, t.b, t.c].map(u64::from);
         let memory = [counters, lent.counters, slots, lent.slots].map(|n| n as u64);
-        let mut request = [0; 136];
+        let stream = stream.map(|n| n as u64);
+        let mut request = [0; 160];
         let settings = [u64::from(t.k)].into_iter().chain(sizes).chain(others);
-        let numbers = [number].into_iter().chain(settings).chain(memory).chain(beside);
+        let numbers = [number].into_iter().chain(settings).chain(memory).chain(beside).chain(stream);
         for (bytes, number) in request.chunks_exact_mut(8).zip(numbers) {
             bytes.copy_from_slice(&number.to_ne_bytes());
         }

@@ -14,8 +14,12 @@ macro_rules! say {
 mod attributes;
 mod calls;
 mod cuts;
+mod cutting;
 mod draft;
+mod feeding;
 mod history;
+mod import_tally;
+mod imports;
 mod inputs;
 mod interrupt;
 mod library;
@@ -26,24 +30,32 @@ mod message_tally;
 mod messages;
 mod other_sizes;
 mod pair;
+mod paper_dumps;
 mod places;
 mod program;
 mod random;
+mod random_dumps;
 mod random_lines;
 mod random_lists;
 mod random_messages;
 mod random_sizes;
 mod reading;
+mod record_draft;
 mod recorded;
+mod recorded_dumps;
+mod records;
 mod replacing;
 mod routes;
 mod rules;
 mod slips;
 mod spoilt_messages;
+mod spoilt_records;
+mod streams;
 mod tally;
 mod text;
 mod told;
 mod worked;
+mod worked_imports;
 mod worked_messages;
 mod worked_sizes;
 mod writing;
@@ -63,6 +75,7 @@ usage: second [--seed N] [--calls N | --seconds N]   random histories, 500000 ca
        second --seed N --history M [--show]          one history again; --show tells each call
        second --slips [--seed N]                     gets one rule wrong at a time: each must be found
        second --recorded FILE                        messages of real daemons, with other programs' readings
+       second --recorded-dump FILE                   a dump of a real daemon, with bgpdump's reading beside it
        second --lines [--seed N] [--count N]         random lines to the text program, 6000 unless told
        second --lines --seed N --history M [--show]  one input of them again; --show tells each line
        second --lines --slips [--seed N]             as above, with the rules of the reader of lines
@@ -78,7 +91,8 @@ library; it is the host beside this one unless told.";
 const LINES: u64 = 6000;
 
 /// From so many calls on, a run must have met every refusal, all that adds of stored prefixes can meet, what
-/// messages can be and have wrong about them, and in each call all that can be other about the filters' sizes.
+/// messages and dumps can be and have wrong about them, every place where a dump can be cut, and in each call all
+/// that can be other about the filters' sizes.
 const MANY_CALLS: u64 = 100_000;
 
 /// A slip that so many histories do not show is not found.
@@ -100,6 +114,7 @@ struct Options {
     answer: bool,
     cut: Option<String>,
     recorded: Option<String>,
+    recorded_dump: Option<String>,
     host: Option<String>,
     command: Option<Vec<String>>,
 }
@@ -130,6 +145,10 @@ fn options() -> Result<Options, String> {
             }
             "--recorded" => {
                 options.recorded = Some(words.next().ok_or("--recorded needs a file")?);
+                continue;
+            }
+            "--recorded-dump" => {
+                options.recorded_dump = Some(words.next().ok_or("--recorded-dump needs a file")?);
                 continue;
             }
             "--host" => {
@@ -212,7 +231,10 @@ fn compare_calls(seed: u64, options: Options) -> bool {
         }
     };
     if let Some(file) = options.recorded {
-        return compare_recorded(&mut library, &file);
+        return recorded_went(recorded::compare(&mut library, &file));
+    }
+    if let Some(file) = options.recorded_dump {
+        return recorded_went(recorded_dumps::compare(&mut library, &file));
     }
     match (options.slips, options.history) {
         (true, _) => find_slips(&mut library, seed),
@@ -311,9 +333,9 @@ fn compare(library: &mut Library, seed: u64, calls: Option<u64>, seconds: Option
     }
 }
 
-/// Messages that were recorded.
-fn compare_recorded(library: &mut Library, file: &str) -> bool {
-    match recorded::compare(library, file) {
+/// Says how it went with what was recorded.
+fn recorded_went(went: Result<String, String>) -> bool {
+    match went {
         Ok(went) => say!("{went}, no difference"),
         Err(difference) => {
             say!("second: DIFFERENCE in {difference}");

@@ -9,21 +9,24 @@ use crate::places::{bytes_of, places, Place};
 use crate::routes::Routes;
 use crate::rules::{self, counter_bytes, slot_words};
 use crate::slips::Slip;
+use crate::streams::StreamPair;
 use crate::told::{dotted, Answer, Parts};
 use std::collections::HashMap;
 use std::{fmt, io};
 
 pub struct Pair {
     t: Settings,
-    area: Area,
+    pub area: Area,
     /// This program's own memory, with its margins.
-    counters: Vec<u8>,
-    slots: Vec<u32>,
+    pub counters: Vec<u8>,
+    pub slots: Vec<u32>,
     /// How many bytes after a word's address the list of sizes begins; each call has another one.
     sizes_offset: usize,
     /// The stored routes, where the history began with a clear.
     pub routes: Option<Routes>,
-    slip: Option<Slip>,
+    /// What the imports into this table are lent beside it.
+    pub stream: StreamPair,
+    pub slip: Option<Slip>,
 }
 
 /// What differs after a call, in words.
@@ -55,7 +58,28 @@ impl Pair {
         let slots: Vec<u32> = (0..slot_words(&t) + 2 * MARGIN).map(|_| word()).collect();
         library.counters(area, counters.len()).copy_from_slice(&counters);
         library.slots(area, slots.len()).copy_from_slice(&slots);
-        Pair { t, area, counters, slots, sizes_offset: 0, routes: None, slip }
+        let stream = StreamPair::new(library, area);
+        Pair { t, area, counters, slots, sizes_offset: 0, routes: None, stream, slip }
+    }
+
+    /// Another table that holds the same, and so does what its imports are lent.
+    pub fn copy(&self, library: &mut Library, area: Area) -> Pair {
+        library.counters(area, self.counters.len()).copy_from_slice(&self.counters);
+        library.slots(area, self.slots.len()).copy_from_slice(&self.slots);
+        Pair {
+            t: self.t,
+            area,
+            counters: self.counters.clone(),
+            slots: self.slots.clone(),
+            sizes_offset: 0,
+            routes: self.routes.clone(),
+            stream: self.stream.copy(library, area),
+            slip: self.slip,
+        }
+    }
+
+    pub fn settings(&self) -> &Settings {
+        &self.t
     }
 
     /// What this table's calls lend.
@@ -171,7 +195,7 @@ impl Pair {
 
     /// Does a call in the library, on slots that begin so many bytes after their place. The list of sizes is
     /// lent with it, and must stay as it is.
-    fn call_library<'a>(
+    pub fn call_library<'a>(
         &mut self,
         library: &mut Library,
         area: Area,
@@ -257,12 +281,12 @@ impl Pair {
         let asked = match call {
             AnyCall::One(call) => self.call_in(library, Area::Unaligned, offset, &t, lent, call).err(),
             AnyCall::List(list) => self.list_in(library, Area::Unaligned, offset, &t, lent, list).err(),
-            AnyCall::Message(_) | AnyCall::Writing(_) => unreachable!("these are no questions"),
+            _ => unreachable!("these are no questions"),
         };
         asked.map_or(Ok(()), |Difference(what)| Err(Difference(format!("on unaligned slots, {what}"))))
     }
 
-    fn compare_memory(&self, library: &mut Library) -> Result<(), Difference> {
+    pub fn compare_memory(&self, library: &mut Library) -> Result<(), Difference> {
         compare_lent("counter byte", library.counters(self.area, self.counters.len()), &self.counters)?;
         compare_lent("slot word", library.slots(self.area, self.slots.len()), &self.slots)
     }
@@ -360,13 +384,17 @@ fn single_calls(message: &Message) -> Option<Vec<Call>> {
 }
 
 /// Bytes with margins whose content no call writes: a word of the results has zeros in its high bytes.
-fn with_margins(bytes: &[u8]) -> Vec<u8> {
+pub fn with_margins(bytes: &[u8]) -> Vec<u8> {
     let margin = || (0..MARGIN).map(|at| 0x80 + at as u8);
     margin().chain(bytes.iter().copied()).chain(margin()).collect()
 }
 
 /// Compares what both have of something lent, with its margins.
-fn compare_lent<T: PartialEq + fmt::Display>(what: &str, theirs: &[T], ours: &[T]) -> Result<(), Difference> {
+pub fn compare_lent<T: PartialEq + fmt::Display>(
+    what: &str,
+    theirs: &[T],
+    ours: &[T],
+) -> Result<(), Difference> {
     if *theirs == *ours {
         return Ok(());
     }
@@ -385,7 +413,7 @@ fn place(what: &str, at: usize, size: usize) -> String {
     }
 }
 
-fn same<T: PartialEq + fmt::Display>(what: &str, theirs: T, ours: T) -> Result<(), Difference> {
+pub fn same<T: PartialEq + fmt::Display>(what: &str, theirs: T, ours: T) -> Result<(), Difference> {
     if theirs == ours {
         return Ok(());
     }

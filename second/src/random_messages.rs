@@ -37,7 +37,7 @@ impl Source<'_> {
 
     /// So many prefixes as they are written, now and then one of them twice. Bits after the length mean
     /// nothing, and are often set.
-    fn prefixes(&self, random: &mut Random, count: usize, stored: usize) -> Vec<Vec<u8>> {
+    pub fn prefixes(&self, random: &mut Random, count: usize, stored: usize) -> Vec<Vec<u8>> {
         let mut prefixes: Vec<Vec<u8>> = Vec::new();
         for _ in 0..count {
             if !prefixes.is_empty() && random.percent(8) {
@@ -92,7 +92,7 @@ fn draft(random: &mut Random, source: &Source, hop: u32) -> Draft {
 }
 
 /// Path attributes in any order, NEXT_HOP mostly among them where routes are announced.
-fn attributes(random: &mut Random, announces: bool, hop: u32) -> Vec<Vec<u8>> {
+pub fn attributes(random: &mut Random, announces: bool, hop: u32) -> Vec<Vec<u8>> {
     let count = random.pick(&[0, 0, 1, 2, 2, 3, 5]);
     let mut attributes: Vec<Vec<u8>> = (0..count).map(|_| other_attribute(random, hop)).collect();
     if random.percent(if announces { 93 } else { 30 }) {
@@ -140,7 +140,7 @@ fn fill(random: &mut Random, source: &Source, draft: &mut Draft, size: usize) {
 }
 
 /// A list of next hops in which this one stands nowhere, at one place or at several.
-fn hops(random: &mut Random, hop: u32) -> Vec<u32> {
+pub fn hops(random: &mut Random, hop: u32) -> Vec<u32> {
     if random.below(1000) < LONG_LISTS {
         return many_hops(random, hop);
     }
@@ -172,7 +172,7 @@ fn other_hop(random: &mut Random, hop: u32) -> u32 {
 }
 
 /// A list of so many that its last places are no hops.
-fn many_hops(random: &mut Random, hop: u32) -> Vec<u32> {
+pub fn many_hops(random: &mut Random, hop: u32) -> Vec<u32> {
     let other = other_hop(random, hop);
     let mut hops = vec![other; random.pick(&[65_536, 65_537, 65_538, 65_700, MOST_HOPS])];
     for _ in 0..random.within(1, 2) {

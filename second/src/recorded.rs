@@ -9,7 +9,7 @@ use crate::routes::Routes;
 use std::fs;
 
 /// A table that takes all of their routes, with filters all of one size.
-const TABLE: Settings =
+pub const TABLE: Settings =
     Settings { k: 4, d: Sizes::equal(7), e: 3, s: 8, a: 0xc2b2_ae3d, b: 0x85eb_ca77, c: 0x9e37_79b1 };
 
 /// One message of the file.
@@ -137,14 +137,16 @@ fn take(message: &mut Recorded, line: &str) -> Option<()> {
 }
 
 fn prefixes(list: &str) -> Option<Vec<(u32, u32)>> {
-    let prefix = |word: &str| {
-        let (prefix, length) = word.split_once('/')?;
-        Some((address(prefix)?, length.parse().ok()?))
-    };
     list.split(' ').filter(|word| *word != "-").map(prefix).collect()
 }
 
-fn address(word: &str) -> Option<u32> {
+/// A prefix and its length.
+pub fn prefix(word: &str) -> Option<(u32, u32)> {
+    let (prefix, length) = word.split_once('/')?;
+    Some((address(prefix)?, length.parse().ok()?))
+}
+
+pub fn address(word: &str) -> Option<u32> {
     let octets: Option<Vec<u8>> = word.split('.').map(|octet| octet.parse().ok()).collect();
     Some(u32::from_be_bytes(octets?.try_into().ok()?))
 }

@@ -23,6 +23,7 @@ impl Route {
 }
 
 /// The routes that a history leaves.
+#[derive(Clone)]
 pub struct Routes {
     t: Settings,
     slip: Option<Slip>,

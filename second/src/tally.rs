@@ -1,14 +1,26 @@
 //! What a run has seen. A run that never met a refusal or a kind of answer has compared nothing there.
 
 use crate::calls::{AnyCall, Call, Sizes};
+use crate::import_tally::ImportTally;
 use crate::message_tally::MessageTally;
 use crate::other_sizes::KINDS;
 use crate::pair::Difference;
 use crate::replacing::{MEETS, MEETS_UNDAMAGED};
 use std::fmt;
 
-const CALLS: [&str; 9] =
-    ["clear", "add", "withdraw", "change", "match vector", "lookup", "list", "message", "written withdrawal"];
+const CALLS: [&str; 11] = [
+    "clear",
+    "add",
+    "withdraw",
+    "change",
+    "match vector",
+    "lookup",
+    "list",
+    "message",
+    "import",
+    "written withdrawal",
+    "end of a stream",
+];
 
 /// The refusals that each call can give.
 const GIVES: [&[usize]; CALLS.len()] = [
@@ -20,14 +32,16 @@ const GIVES: [&[usize]; CALLS.len()] = [
     &[0, 1, 2],
     &[0, 1, 2, 18],
     &[0, 1, 2, 12, 13],
+    &[0, 1, 2, 12, 14, 19],
     &[0, 3, 4, 18],
+    &[0, 17],
 ];
 
 /// So many of the calls, the first, have settings.
-pub const WITH_SETTINGS: usize = 8;
+pub const WITH_SETTINGS: usize = 9;
 
 /// Room for every refusal that a call can give.
-const REFUSALS: usize = 19;
+const REFUSALS: usize = 20;
 
 /// Where adds of stored prefixes are counted apart, and how much of what they can meet is met there.
 const REPLACING: [(&str, usize); 2] =
@@ -50,6 +64,9 @@ pub struct Tally {
     replaced: [u64; REPLACING.len()],
     met: [[u64; MEETS.len()]; REPLACING.len()],
     messages: MessageTally,
+    pub imports: ImportTally,
+    /// Calls to streams that have ended, which give again the number that ended them, any number.
+    again: u64,
     /// Calls with other sizes than their table's.
     other_sizes: [[u64; KINDS.len()]; WITH_SETTINGS],
     /// Histories whose filters are all of one size, the others, and those of the others in which a route of each
@@ -77,8 +94,19 @@ impl Tally {
             AnyCall::One(Call::Lookup { .. }) => 5,
             AnyCall::List(_) => 6,
             AnyCall::Message(_) => 7,
-            AnyCall::Writing(_) => 8,
+            AnyCall::Import(_) => 8,
+            AnyCall::Writing(_) => 9,
+            AnyCall::End(_) => 10,
         };
+        let ended = match call {
+            AnyCall::Import(import) => import.words[0] != 0,
+            AnyCall::End(end) => end.words[0] != 0,
+            _ => false,
+        };
+        if ended {
+            self.again += 1;
+            return Ok(());
+        }
         let refusal = (answer >> 48) as usize;
         if !GIVES[row].contains(&refusal) {
             return Err(Difference(format!("both give refusal {refusal}, which no {} gives", CALLS[row])));
@@ -136,7 +164,7 @@ impl Tally {
     }
 
     pub fn calls(&self) -> u64 {
-        self.given.iter().flatten().sum()
+        self.given.iter().flatten().sum::<u64>() + self.again
     }
 
     /// The first thing that a long run should have met and did not.
@@ -169,7 +197,7 @@ impl Tally {
                 return Some(format!("no {} had {}", CALLS[row], KINDS[missed]));
             }
         }
-        self.messages.missing()
+        self.messages.missing().or_else(|| self.imports.missing())
     }
 }
 
@@ -219,6 +247,6 @@ impl fmt::Display for Tally {
             let times: u64 = self.other_sizes.iter().map(|row| row[number]).sum();
             write!(f, "{} {kind}: {times}", if number == 0 { "" } else { "," })?;
         }
-        write!(f, "\n{}", self.messages)
+        write!(f, "\n{}\n{}", self.messages, self.imports)
     }
 }

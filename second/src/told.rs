@@ -1,6 +1,6 @@
 //! Calls and their answers in words.
 
-use crate::calls::{AnyCall, Call, Lent, List, Message, Settings, Sizes, Writing};
+use crate::calls::{AnyCall, Call, End, Import, Lent, List, Message, Settings, Sizes, Writing};
 use std::fmt;
 
 /// A call in words.
@@ -12,6 +12,8 @@ pub fn told<'a>(t: &Settings, lent: Lent, call: impl Into<AnyCall<'a>>) -> Strin
         AnyCall::List(list) => told_list(list),
         AnyCall::Message(message) => told_message(message),
         AnyCall::Writing(writing) => return told_writing(writing),
+        AnyCall::Import(import) => told_import(import),
+        AnyCall::End(End { words, .. }) => return format!("end of a stream with the words {words:?}"),
     };
     let unit = if call.units() == 4 { "bytes" } else { "words" };
     format!(
@@ -67,25 +69,44 @@ fn told_list(list: &List) -> String {
     )
 }
 
-/// A message with its bytes and its next hops, without those beyond many.
 fn told_message(message: &Message) -> String {
-    const MANY_BYTES: usize = 4097;
-    const MANY_HOPS: usize = 40;
     let Message { bytes, offset, hops, hops_offset } = message;
-    let mut bytes: String = bytes.iter().take(MANY_BYTES).map(|byte| format!("{byte:02x}")).collect();
-    let mut hops: Vec<String> = hops.iter().take(MANY_HOPS).map(|hop| dotted(*hop)).collect();
-    if message.bytes.len() > MANY_BYTES {
-        bytes += "..";
-    }
-    if message.hops.len() > MANY_HOPS {
-        hops.push("..".to_string());
-    }
+    format!("message of {}, {}", told_bytes(bytes, *offset), told_hops(hops, *hops_offset))
+}
+
+fn told_import(import: &Import) -> String {
+    let Import { chunk, offset, hops, hops_offset, counts, words, header, offsets } = import;
+    let header: String = header.iter().map(|byte| format!("{byte:02x}")).collect();
     format!(
-        "message of {}: {bytes} ({offset} past a word's address), {} ({hops_offset} words past their place): {}",
-        counted(message.bytes.len(), "byte", "bytes"),
-        counted(message.hops.len(), "next hop", "next hops"),
-        hops.join(" ")
+        "import of a chunk of {}, {}; counts {counts:?}, words {words:?}, room that begins with {header}, these \
+         {}, {} and {} past their places",
+        told_bytes(chunk, *offset),
+        told_hops(hops, *hops_offset),
+        offsets.counts,
+        offsets.words,
+        offsets.room
     )
+}
+
+/// Bytes, without those beyond many.
+fn told_bytes(bytes: &[u8], offset: usize) -> String {
+    const MANY: usize = 4097;
+    let mut told: String = bytes.iter().take(MANY).map(|byte| format!("{byte:02x}")).collect();
+    if bytes.len() > MANY {
+        told += "..";
+    }
+    format!("{}: {told} ({offset} past a word's address)", counted(bytes.len(), "byte", "bytes"))
+}
+
+/// Next hops, without those beyond many.
+fn told_hops(hops: &[u32], offset: usize) -> String {
+    const MANY: usize = 40;
+    let mut told: Vec<String> = hops.iter().take(MANY).map(|hop| dotted(*hop)).collect();
+    if hops.len() > MANY {
+        told.push("..".to_string());
+    }
+    let count = counted(hops.len(), "next hop", "next hops");
+    format!("{count} ({offset} words past their place): {}", told.join(" "))
 }
 
 fn told_writing(writing: &Writing) -> String {
