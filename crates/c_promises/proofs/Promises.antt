@@ -15,9 +15,12 @@ use Rattle.promises.specs.Demands.{Reordered, Longest, NoMatch, probes-down-to,
 use Rattle.promises.proofs.Histories.{one-made, made-append}
 use Rattle.promises.proofs.Promises.{finds-longest, says-none, probes-counted, same-numbers, same-lookups-after, same-vectors-after}
 use Rattle.message_promises.proofs.Promises.{same-reports}
+use Rattle.import_format.specs.Importing.{Imported, as-it-was}
+use Rattle.import_promises.specs.Dumps.{next-chunk, SameGiven}
+use Rattle.import_promises.proofs.Promises.{same-imports}
 use Rattle.c_promises.specs.Numbers.{gateway-refusal}
-use Rattle.c_promises.specs.Calls.{Updated, LookedUp, Matched, ListedUp, Sent}
-use Rattle.c_promises.proofs.Unpacking.{update-read, update-zero-elsewhere, looked-up, equal-lookups, equal-vectors, equal-messages}
+use Rattle.c_promises.specs.Calls.{Updated, LookedUp, Matched, ListedUp, Sent, ChunkImported}
+use Rattle.c_promises.proofs.Unpacking.{update-read, update-zero-elsewhere, looked-up, equal-lookups, equal-vectors, equal-messages, import-read, import-zero-elsewhere}
 use Rattle.c_promises.proofs.Lists.{equal-list-numbers, equal-lists}
 
 -- ---- The number of a lookup
@@ -72,6 +75,17 @@ module _ {t : Settings} {calls : List Call} {answers : List ℕ} {m : Memory} (h
   pub same-message-numbers : {message hops : List ℕ} {m' new-m' : Memory} {answer new-answer : ℕ} → Sent t last message hops answer m' → Sent t new-last message hops new-answer new-m'
       → new-answer ≡ answer
   same-message-numbers {message} {hops} sent new-sent = equal-messages sent new-sent (same-reports history same anew made made-anew message hops (sent .bytes))
+
+  -- for a chunk of a dump, where counts, words and room are the same, and are left so,
+  pub same-import-numbers : {before new-before answer new-answer : ℕ} {hops counts words room chunk : List ℕ} {s' new-s' : Imported}
+      → ChunkImported t hops (as-it-was before last counts words room) chunk answer s'
+      → ChunkImported t hops (as-it-was new-before new-last counts words room) chunk new-answer new-s' → (new-answer ≡ answer) × SameGiven new-s' s'
+  unfolding next-chunk
+  same-import-numbers {hops = hops} {counts} {words} {room} {chunk} made-of new-made-of =
+      let both = same-imports history same anew made made-anew hops counts words room chunk (made-of .room-bytes) (made-of .bytes) in
+      let alike = rw (import-read new-made-of, import-read made-of) at both in
+      let numbers = sym (new-made-of .number) ∙ alike .number ∙ made-of .number in
+      (import-zero-elsewhere new-made-of ∙ rw numbers (sym (import-zero-elsewhere made-of)), alike)
 
   -- and for a list of addresses, over as many bytes of results.
   module _ {addresses results results' new-results new-results' : List ℕ} {answer new-answer : ℕ}
