@@ -144,7 +144,10 @@ impl Import<'_> {
 
     /// The slip for a single add, but none of its 64-bit number: no such number crosses here.
     fn rules_slip(&self) -> Option<Slip> {
-        self.slip.filter(|slip| *slip != Slip::RefusalAt40)
+        match self.slip {
+            Some(Slip::ImportOddPasses) => Some(Slip::OddUnasked),
+            slip => slip.filter(|slip| *slip != Slip::RefusalAt40),
+        }
     }
 
     /// Gives a number back; nothing is written, but by a slip.
@@ -353,8 +356,9 @@ impl Import<'_> {
         };
         let call = Call::Add { prefix, length, hop };
         let slip = self.rules_slip();
-        match answer(self.t, self.counters, self.slots, self.lent, call, slip) {
+        match answer(self.t, self.counters, self.slots, self.lent, call, slip) / REFUSAL {
             0 => self.count(0),
+            11 if self.is(Slip::ImportOddUncounted) => (),
             _ if self.is(Slip::ImportRefusedUncounted) => (),
             _ => self.count(1),
         }

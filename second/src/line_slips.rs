@@ -18,6 +18,7 @@ slips! {
     OtherSettings: "the table has K 1",
     StartsWithDefault: "the table starts with a default of hop 0",
     TableForgotten: "the table is cleared before each line",
+    OddPasses: "an odd prefix is added, not refused as 11",
     // Where lines begin and end.
     LastLineLost: "a last line without byte 10 gets no answer",
     FurtherLine: "a further empty line follows a last byte 10",
@@ -66,6 +67,8 @@ slips! {
     RefusedUnreadable: "a refused update writes unreadable",
     RefusedNumberless: "a refusal writes no number",
     RefusedOk: "a refusal writes ok",
+    // Differs only for 11.
+    RefusedOneDigit: "a refusal writes only the last digit of its number",
     LengthBeforeHop: "find writes the length before the hop",
     ProbesLeftOut: "find writes no probes",
     NoneProbesLeftOut: "none writes no probes",

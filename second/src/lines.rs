@@ -5,6 +5,7 @@
 use super::calls::{Call, Lent, Settings};
 use super::line_slips::LineSlip;
 use super::rules::{answer, counter_bytes, slot_words, T};
+use super::slips::Slip;
 
 /// The longest line that is read, without its byte 10.
 const LONGEST: usize = 64;
@@ -108,7 +109,8 @@ impl Reader {
 
     fn call(&mut self, call: Call) -> u64 {
         let lent = Lent { counters: self.counters.len(), slots: self.slots.len() * call.units() };
-        answer(&self.t, &mut self.counters, &mut self.slots, lent, call, None)
+        let slip = if self.is(LineSlip::OddPasses) { Some(Slip::OddUnasked) } else { None };
+        answer(&self.t, &mut self.counters, &mut self.slots, lent, call, slip)
     }
 
     /// The words written for a call's answer.
@@ -119,6 +121,7 @@ impl Reader {
                 Some(LineSlip::RefusedUnreadable) => "unreadable".to_string(),
                 Some(LineSlip::RefusedNumberless) => "refused".to_string(),
                 Some(LineSlip::RefusedOk) => "ok".to_string(),
+                Some(LineSlip::RefusedOneDigit) => format!("refused {}", refusal % 10),
                 _ => format!("refused {refusal}"),
             };
         }

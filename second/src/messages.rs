@@ -7,7 +7,7 @@ use std::collections::BTreeSet;
 
 use super::calls::{Call, Lent, Settings};
 use super::reading::read_with;
-use super::rules::answer;
+use super::rules::{answer, odd};
 use super::slips::Slip;
 
 pub use super::reading::{read, Fault, Said, FAULTS};
@@ -228,7 +228,7 @@ impl Update<'_> {
     }
 
     fn announcements(&self) -> Vec<Call> {
-        // Only slips announce without a hop number: each add then gives 5.
+        // Only slips announce without a hop number: each add then gives 5, or 11 for an odd prefix.
         let hop = self.hop().unwrap_or(u32::MAX);
         let call = |(prefix, length)| match self.slip {
             Some(Slip::MessageAnnouncedChanged) => Call::Change { prefix, length, hop },
@@ -282,6 +282,7 @@ impl Update<'_> {
                 (Some(Slip::MessageWithdrawnUncounted), _) if of_withdrawal => (),
                 (Some(Slip::MessageAnnouncedUncounted), _) if !of_withdrawal => (),
                 (Some(Slip::MessageUnstoredUncounted), 7) => (),
+                (Some(Slip::MessageOddUncounted), 11) => (),
                 (Some(Slip::MessageUnstoredAccepted), 7) => counts.accepted += 1,
                 (_, 0) => counts.accepted += 1,
                 _ => counts.refused += 1,
@@ -304,13 +305,19 @@ impl Update<'_> {
 
     /// The slip for a single call, but none of its 64-bit number: no such number crosses here.
     fn rules_slip(&self) -> Option<Slip> {
-        self.slip.filter(|slip| *slip != Slip::RefusalAt40)
+        match self.slip {
+            Some(Slip::MessageOddPasses) => Some(Slip::OddUnasked),
+            slip => slip.filter(|slip| *slip != Slip::RefusalAt40),
+        }
     }
 
-    /// Slips only: does an announcement of a stored prefix as a change, and says whether it was one.
+    /// Slips only: does an announcement of a stored prefix, unless that is odd, as a change, and says whether
+    /// it was one.
     fn replaced(&mut self, call: Call) -> bool {
         match call {
-            Call::Add { prefix, length, hop } => self.single(Call::Change { prefix, length, hop }) == 0,
+            Call::Add { prefix, length, hop } if !odd(length, prefix) => {
+                self.single(Call::Change { prefix, length, hop }) == 0
+            }
             _ => false,
         }
     }

@@ -41,7 +41,8 @@ impl Routes {
         &self.list
     }
 
-    /// Does a clear or an update that refusals 1 to 5 let pass; gives its refusal, 0 for none.
+    /// Does a clear or an update that refusals 1 to 5 let pass; gives its refusal, 0 for none. An add that
+    /// gets 11 gets it whatever its hop, since 5 is asked later.
     pub fn update(&mut self, call: Call) -> u64 {
         match call {
             Call::Clear => self.clear(),
@@ -141,6 +142,32 @@ impl Routes {
     }
 
     fn add(&mut self, prefix: u32, length: u32, hop: u32) -> u64 {
+        match self.slip {
+            Some(Slip::PaperOddUnasked) => self.take(prefix, length, hop),
+            Some(Slip::PaperOddListed) if self.odd(prefix, length) => {
+                self.take(prefix, length, hop);
+                11
+            }
+            _ if self.odd(prefix, length) => 11,
+            _ => self.take(prefix, length, hop),
+        }
+    }
+
+    /// Whether all addresses of a prefix, from its first to its last, have a first octet of 127, or all have
+    /// one of 224 to 239.
+    fn odd(&self, prefix: u32, length: u32) -> bool {
+        let addresses = match self.slip {
+            Some(Slip::PaperOddByAddress) => 1,
+            _ => 2u64.pow(32u32.saturating_sub(length)),
+        };
+        let octet = |address: u64| address / 2u64.pow(24);
+        let (first, last) = (octet(prefix as u64), octet(prefix as u64 + addresses - 1));
+        let both = |from: u64, to: u64| from <= first && last <= to;
+        both(127, 127) || both(224, 239)
+    }
+
+    /// Lists a route that is not odd, or sets its hop if it is listed.
+    fn take(&mut self, prefix: u32, length: u32, hop: u32) -> u64 {
         let new = self.route(prefix, length, hop);
         if let Some(at) = self.find(prefix, length, Slip::PaperAddAnyLength) {
             match self.slip {

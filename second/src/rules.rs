@@ -81,6 +81,38 @@ fn cut(length: u32, address: u32, slip: Option<Slip>) -> u32 {
     (address as u64 / unit * unit) as u32
 }
 
+/// Whether a prefix is kept out by adds: whether it lies wholly in 127.0.0.0/8 or in 224.0.0.0/4.
+pub fn odd(length: u32, p: u32) -> bool {
+    kept_out(length, p, None)
+}
+
+fn kept_out(length: u32, p: u32, slip: Option<Slip>) -> bool {
+    let in_block = |octet: u64, bits: u32| lies_in(length, p, (octet * two_to(24)) as u32, bits, slip);
+    let (one, other) = (in_block(127, 8), in_block(224, 4));
+    match slip {
+        Some(Slip::Odd127As7) => in_block(126, 7) || other,
+        Some(Slip::Odd127Itself) => one && length == 8 || other,
+        Some(Slip::Odd224Itself) => one || other && length == 4,
+        Some(Slip::Odd127Only) => one,
+        Some(Slip::Odd224Only) => other,
+        Some(Slip::Odd224As8) => one || in_block(224, 8),
+        Some(Slip::Odd240Too) => one || other || in_block(240, 4),
+        Some(Slip::Odd128Too) => one || other || in_block(128, 8),
+        _ => one || other,
+    }
+}
+
+/// Whether a prefix lies wholly in a block: it begins with the block's bits, and has them all.
+fn lies_in(length: u32, p: u32, block: u32, bits: u32, slip: Option<Slip>) -> bool {
+    let shared = length.min(bits);
+    match slip {
+        Some(Slip::OddByAddress) => prefix(bits, p) == block,
+        Some(Slip::OddContaining) => prefix(shared, p) == prefix(shared, block),
+        Some(Slip::OddLongerOnly) => length > bits && prefix(bits, p) == block,
+        _ => length >= bits && prefix(bits, p) == block,
+    }
+}
+
 /// The K positions of a prefix in the filter of its length, in the order of the steps.
 pub fn positions(t: &Settings, length: u32, p: u32) -> Vec<usize> {
     steps(t, length, p, None)
@@ -313,16 +345,23 @@ fn numbers(call: Call, slip: Option<Slip>) -> Vec<u64> {
     let mut order = match call {
         Call::Clear | Call::Vector { .. } | Call::Lookup { .. } => vec![1, 2],
         Call::Add { .. } => match slip {
-            Some(Slip::ReplaceRefused | Slip::DefaultReplaceRefused) => vec![1, 2, 3, 4, 5, 6, 8, 9],
-            _ => vec![1, 2, 3, 4, 5, 8, 9],
+            Some(Slip::ReplaceRefused | Slip::DefaultReplaceRefused) => vec![1, 2, 3, 4, 11, 5, 6, 8, 9],
+            Some(Slip::OddLast) => vec![1, 2, 3, 4, 5, 8, 9, 11],
+            _ => vec![1, 2, 3, 4, 11, 5, 8, 9],
         },
-        Call::Withdraw { .. } => vec![1, 2, 3, 4, 7, 10],
-        Call::Change { .. } => vec![1, 2, 3, 4, 5, 7],
+        Call::Withdraw { .. } => match slip {
+            Some(Slip::WithdrawAsksOdd) => vec![1, 2, 3, 4, 11, 7, 10],
+            _ => vec![1, 2, 3, 4, 7, 10],
+        },
+        Call::Change { .. } => match slip {
+            Some(Slip::ChangeAsksOdd) => vec![1, 2, 3, 4, 11, 5, 7],
+            _ => vec![1, 2, 3, 4, 5, 7],
+        },
     };
     let (one, other) = swapped(slip);
     let place = |number: u64| order.iter().position(|n| *n == number);
     if let (Some(x), Some(y)) = (place(one), place(other)) {
-        order.swap(x, y);
+        order[x..=y].rotate_right(1);
     }
     order.retain(|number| *number != unasked(call, slip));
     order
@@ -380,6 +419,8 @@ impl Table<'_> {
                     && from_one(Slip::DefaultAsksRoom)
                     && self.no_room(p, length.max(1))
             }
+            11 if self.is(Slip::OddStoredReplaced) && stored() => false,
+            11 => kept_out(length, p, self.slip),
             _ => from_one(Slip::DefaultAsksHits) && self.too_few(p, length.max(1)),
         }
     }
@@ -490,6 +531,8 @@ impl Table<'_> {
             (Some(Slip::AddAsksFilter), Call::Add { .. }) => held && self.claimed(length, p),
             (Some(Slip::WithdrawAsksFilter), Call::Withdraw { .. }) => held && self.claimed(length, p),
             (Some(Slip::ChangeAsksFilter), Call::Change { .. }) => held && self.claimed(length, p),
+            (Some(Slip::WithdrawOddUnstored), Call::Withdraw { .. }) => held && !odd(length, p),
+            (Some(Slip::ChangeOddUnstored), Call::Change { .. }) => held && !odd(length, p),
             _ => held,
         }
     }
@@ -550,6 +593,8 @@ impl Table<'_> {
                 }
             }
             (Some(Slip::RoomSlotLate), 9, _) => self.fill(length, p, hop),
+            (Some(Slip::OddLate), 11, _) if !self.stored(p, length, call) => self.fill(length, p, hop),
+            (Some(Slip::OddReplacedLate), 11, _) => self.replace(p, length, hop),
             (Some(Slip::UnstoredLate), 7, Call::Withdraw { .. }) => self.lower(length, p),
             (Some(Slip::HitsLate), 10, _) => self.empty(length, p),
             _ => (),
@@ -954,6 +999,9 @@ impl Table<'_> {
             }
             probes += self.or(1, Slip::ProbesSlots, self.t.s as u64);
             let p = self.sought(length, address);
+            if self.is(Slip::LookupPassesOdd) && odd(length, p) {
+                continue;
+            }
             if let Some(n) = self.lowest(self.holding(length, p), Slip::LookupHighest) {
                 let hop = self.hop(self.mark(n)).unwrap_or(0);
                 return (Some((hop, length as u64)), probes);

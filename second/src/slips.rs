@@ -259,6 +259,11 @@ slips! {
     UnstoredBeforeHop: "7 is asked before 5",
     UnstoredBeforeBit: "7 is asked before 4",
     RoomBeforeFull: "9 is asked before 8",
+    OddAfterHop: "11 is asked after 5",
+    // Differs where the bucket is full or a counter has no room, and as above.
+    OddLast: "11 is asked after 5, 8 and 9",
+    OddBeforeBit: "11 is asked before 4",
+    OddBeforeLength: "11 is asked before 3",
     HitsBeforeUnstored: "10 is asked before 7",
     // Who asks for which refusal.
     ClearSizeUnasked: "a clear never gives 2",
@@ -278,6 +283,9 @@ slips! {
     FullUnasked: "an add never gives 8",
     RoomUnasked: "an add never gives 9",
     HitsUnasked: "a withdrawal never gives 10",
+    OddUnasked: "an add never gives 11",
+    WithdrawAsksOdd: "a withdrawal gives 11 too",
+    ChangeAsksOdd: "a change gives 11 too",
     // What each refusal asks.
     LengthTo31: "length 32 is refused",
     LengthTo33: "length 33 passes",
@@ -304,7 +312,27 @@ slips! {
     HitsOne: "a counter of one is enough for any hits",
     HitsOneMore: "a counter must pass its hits",
     HitsByFirst: "10 is asked at the positions that the D of length 1 gives",
+    // What 11 asks.
+    // Differs only for 224.0.0.0/3.
+    OddByAddress: "11 asks for the address alone: 224.0.0.0/3 is refused too",
+    OddContaining: "what contains 127.0.0.0/8 or 224.0.0.0/4 is refused as 11 too, as 0.0.0.0/0",
+    OddLongerOnly: "127.0.0.0/8 and 224.0.0.0/4 themselves pass, only longer ones are refused",
+    Odd127As7: "127.0.0.0/8 is taken for 126.0.0.0/7: all in there is refused as 11",
+    Odd127Itself: "127.0.0.0/8 alone is refused, not the longer ones in it",
+    Odd224Itself: "224.0.0.0/4 alone is refused, not the longer ones in it",
+    Odd127Only: "what lies in 224.0.0.0/4 passes",
+    Odd224Only: "what lies in 127.0.0.0/8 passes",
+    Odd224As8: "224.0.0.0/4 is taken for 224.0.0.0/8: 225.0.0.0/8 passes",
+    Odd240Too: "what lies in 240.0.0.0/4 is refused as 11 too",
+    Odd128Too: "what lies in 128.0.0.0/8 is refused as 11 too",
+    // Odd prefixes that the memory holds from before. The next five differ only there.
+    OddStoredReplaced: "an add of a stored odd prefix replaces its hop",
+    WithdrawOddUnstored: "a withdrawal takes an odd prefix as not stored",
+    ChangeOddUnstored: "a change takes an odd prefix as not stored",
+    LookupPassesOdd: "a lookup probes for an odd prefix and never finds it",
+    OddReplacedLate: "11 leaves a stored odd prefix with the new hop",
     // Refused calls that had begun to write.
+    OddLate: "11 leaves a free slot written",
     FullLate: "8 leaves the first counter raised",
     RoomLate: "9 leaves the first counter raised",
     RoomSlotLate: "9 leaves the slot written",
@@ -322,6 +350,10 @@ slips! {
     // The paper: the list of routes.
     PaperClearKeeps: "paper: a clear keeps the routes",
     PaperAddAnyLength: "paper: an add does not compare lengths",
+    PaperOddUnasked: "paper: 11 is never given",
+    PaperOddListed: "paper: an add refused as 11 is listed",
+    // Differs only for 224.0.0.0/3.
+    PaperOddByAddress: "paper: 11 asks for the address alone: 224.0.0.0/3 is refused too",
     PaperReplaceListsAgain: "paper: an add of a stored route lists it again",
     PaperReplaceRefused: "paper: an add of a stored route is refused as 6",
     PaperDefaultReplaceRefused: "paper: an add of a stored default is refused as 6",
@@ -559,6 +591,9 @@ slips! {
     MessageReplacedUncounted: "message: an announcement of a stored prefix is done and not counted",
     MessageUnstoredUncounted: "message: a withdrawal refused as 7 is not counted",
     MessageUnstoredAccepted: "message: a withdrawal refused as 7 counts as accepted",
+    // Messages: odd prefixes.
+    MessageOddPasses: "message: an announced odd prefix is added",
+    MessageOddUncounted: "message: an announcement refused as 11 is not counted",
     // Messages: refused calls that had begun to write.
     MessageWithdrawnEarly: "message: 12 leaves the routes withdrawn that stand before the fault",
     MessageAnnouncedEarly: "message: 12 for an announced prefix leaves all routes before it done",
@@ -681,6 +716,9 @@ slips! {
     ImportNoneUncounted: "import: records with none are not counted",
     ImportNoneRefused: "import: records with none count as refused",
     ImportRefusedUncounted: "import: refused routes are not counted",
+    // Imports: odd prefixes.
+    ImportOddPasses: "import: a route with an odd prefix is added",
+    ImportOddUncounted: "import: a route refused as 11 is not counted",
     // Imports: the end.
     StreamSkippedEndPasses: "stream: an end inside a body that is stepped over gives 0",
     StreamHeaderEndPasses: "stream: an end inside a header gives 0",
@@ -690,7 +728,7 @@ slips! {
     StreamEndUnwritten: "stream: an end leaves the words as they were",
 }
 
-/// Two refusals that have changed places in the order; 0 and 0 when it is right.
+/// Two refusals of which the second is asked straight before the first; 0 and 0 when the order is right.
 pub fn swapped(slip: Option<Slip>) -> (u64, u64) {
     match slip {
         Some(Slip::SizeBeforeSettings) => (1, 2),
@@ -700,6 +738,9 @@ pub fn swapped(slip: Option<Slip>) -> (u64, u64) {
         Some(Slip::UnstoredBeforeHop) => (5, 7),
         Some(Slip::UnstoredBeforeBit) => (4, 7),
         Some(Slip::RoomBeforeFull) => (8, 9),
+        Some(Slip::OddAfterHop) => (11, 5),
+        Some(Slip::OddBeforeBit) => (4, 11),
+        Some(Slip::OddBeforeLength) => (3, 11),
         Some(Slip::HitsBeforeUnstored) => (7, 10),
         _ => (0, 0),
     }
@@ -719,6 +760,7 @@ pub fn unasked(call: Call, slip: Option<Slip>) -> u64 {
         (Some(Slip::ChangeBitUnasked), Call::Change { .. }) => 4,
         (Some(Slip::AddHopUnasked), Call::Add { .. }) => 5,
         (Some(Slip::ChangeHopUnasked), Call::Change { .. }) => 5,
+        (Some(Slip::OddUnasked), Call::Add { .. }) => 11,
         (Some(Slip::WithdrawUnstoredUnasked), Call::Withdraw { .. }) => 7,
         (Some(Slip::ChangeUnstoredUnasked), Call::Change { .. }) => 7,
         (Some(Slip::FullUnasked | Slip::FullSpills), Call::Add { .. }) => 8,
