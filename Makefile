@@ -29,7 +29,7 @@
 #
 # Needed are the kit's command rt on the PATH (but for make settings and make clean), gcc for all that
 # is C, rustc for second, soak, bench and test, g++ and python3 for test, valgrind for memory, git for bench
-# with BEFORE. The first make run or make lib takes two or three minutes, make test about a quarter of an hour.
+# with BEFORE. The first make run or make lib takes two or three minutes, make test about twenty minutes.
 .DEFAULT_GOAL = help
 .PHONY: help test run lib examples install uninstall settings second soak memory edits bench clean
 

@@ -175,6 +175,20 @@ static inline uint64_t add(const struct settings *t, uint8_t *counters, size_t c
     return 0;
 }
 
+/* Whether a prefix lies in 127.0.0.0/8 or in 224.0.0.0/4. */
+static inline int odd(uint32_t prefix, uint32_t length)
+{
+    return (length >= 8 && prefix >> 24 == 127) || (length >= 4 && prefix >> 28 == 14);
+}
+
+/* An add of a route that was announced. */
+static inline uint64_t add_announced(const struct settings *t, uint8_t *counters, size_t counters_bytes,
+                                     uint32_t *slots, size_t slots_words, uint32_t prefix, uint32_t length,
+                                     uint32_t hop)
+{
+    return odd(prefix, length) ? 11 : add(t, counters, counters_bytes, slots, slots_words, prefix, length, hop);
+}
+
 static inline uint64_t withdraw(const struct settings *t, uint8_t *counters, size_t counters_bytes,
                                 uint32_t *slots, size_t slots_words, uint32_t prefix, uint32_t length)
 {
@@ -205,6 +219,8 @@ uint64_t hand_add(uint32_t k, const uint8_t *d, size_t d_count, uint32_t e, uint
 {
     const struct settings t = {k, d, d_count, e, s, a, b, c};
     uint64_t refusal = refuse_route(&t, counters_bytes, slots_words, prefix, length);
+    if (refusal == 0 && odd(prefix, length))
+        refusal = 11;
     if (refusal == 0 && hop > 65535)
         refusal = 5;
     if (refusal == 0)
@@ -521,7 +537,7 @@ uint64_t hand_update(uint32_t k, const uint8_t *d, size_t d_count, uint32_t e, u
     }
     for (const uint8_t *at = message + parts.announced_from; at < message + message_bytes;) {
         at = take_prefix(at, &prefix, &length);
-        refusal = add(&t, counters, counters_bytes, slots, slots_words, prefix, length, hop);
+        refusal = add_announced(&t, counters, counters_bytes, slots, slots_words, prefix, length, hop);
         accepted += refusal == 0;
         refused += refusal != 0;
     }
@@ -588,7 +604,7 @@ static inline int do_record(const struct settings *t, uint8_t *counters, size_t 
         return 0;
     if (hop == NO_PLACE)
         counts[2]++;
-    else if (add(t, counters, counters_bytes, slots, slots_words, prefix, length, hop) == 0)
+    else if (add_announced(t, counters, counters_bytes, slots, slots_words, prefix, length, hop) == 0)
         counts[0]++;
     else
         counts[1]++;

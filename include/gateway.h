@@ -127,7 +127,7 @@ extern "C" {
 #endif
 
 /* The version of this header, of its archive and of its pkg-config file; CHANGELOG.md lists the versions. */
-#define GATEWAY_VERSION "0.7.0"
+#define GATEWAY_VERSION "0.8.0"
 
 /* An answer that is not looked at is a refusal that nobody sees: the compiler warns of it. */
 #if defined(__GNUC__)
@@ -136,8 +136,8 @@ extern "C" {
 #define GATEWAY_ANSWERS
 #endif
 
-/* What a call refuses, in the order in which it checks; only 19 comes before 1. 6, 11, 15 and 16 are given by no
-   call. */
+/* What a call refuses, in the order in which it checks, but that 19 comes before 1, and 11 after 4 and before 5. 6, 15
+   and 16 are given by no call. */
 enum {
     GATEWAY_OK = 0,
     GATEWAY_BAD_SETTINGS = 1,   /* k, e, s or a value of d is out of its range, or d is not of 32 values */
@@ -150,6 +150,7 @@ enum {
     GATEWAY_BUCKET_FULL = 8,    /* add of a prefix not stored: every slot of its bucket is occupied */
     GATEWAY_COUNTER_FULL = 9,   /* add of a prefix not stored: a counter would pass 15 */
     GATEWAY_COUNTER_SHORT = 10, /* withdraw: a counter would pass below 0; the memory is damaged */
+    GATEWAY_ODD_PREFIX = 11,    /* add: the prefix lies wholly in 127.0.0.0/8 or in 224.0.0.0/4 */
     GATEWAY_BAD_MESSAGE = 12,   /* message: it is no UPDATE, or not well-formed; dump: the record of a route is
                                    not well-formed */
     GATEWAY_BAD_NEXT_HOP = 13,  /* message that announces: NEXT_HOP is missing, not in the list of next hops,
@@ -176,6 +177,7 @@ static inline const char *gateway_refusal_text(uint32_t refusal)
     case GATEWAY_BUCKET_FULL: return "every slot of the bucket is occupied";
     case GATEWAY_COUNTER_FULL: return "a counter would pass 15";
     case GATEWAY_COUNTER_SHORT: return "a counter would pass below 0";
+    case GATEWAY_ODD_PREFIX: return "the prefix lies in 127.0.0.0/8 or 224.0.0.0/4";
     case GATEWAY_BAD_MESSAGE: return "the message is no UPDATE, or the message or record is not well-formed";
     case GATEWAY_BAD_NEXT_HOP:
         return "routes are announced without a NEXT_HOP, or the list does not have it up to place 65535";
@@ -549,7 +551,9 @@ GATEWAY_ANSWERS static inline uint32_t gateway_table_clear(struct gateway_table 
 }
 
 /* Stores a route. A prefix that is stored with this length gets the new hop in place of its old one: this
-   takes no room, so no full bucket or counter stands in its way. */
+   takes no room, so no full bucket or counter stands in its way. A prefix that lies wholly in 127.0.0.0/8, which is
+   the gateway itself, or in 224.0.0.0/4, multicast, is refused as GATEWAY_ODD_PREFIX; a shorter one that only
+   contains them is not. A table filled by an earlier version may hold such a route: withdraw and change reach it. */
 GATEWAY_ANSWERS static inline uint32_t gateway_table_add(struct gateway_table *table, uint32_t prefix,
                                                          uint32_t length, uint32_t hop)
 {

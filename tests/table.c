@@ -137,6 +137,37 @@ static int is_empty(const struct gateway_table *table)
 }
 
 /* An add of a stored prefix, under settings T: bucket 0 of length 8 has words 56 to 59, the default 256. */
+/* 11: what lies wholly in 127.0.0.0/8 or 224.0.0.0/4, after 4 and before 5, and in an add alone. */
+static void run_odd(void)
+{
+    struct gateway_table table = cleared(2, 4, 1, 2, 1, 2, 1);
+    const uint32_t odd[][2] = {{0x7f000000, 8}, {0x7f000000, 9}, {0x7f800000, 9}, {0x7fffffff, 32}, {0x7f000001, 32},
+                               {0xe0000000, 4}, {0xe0000000, 5}, {0xe8000000, 5}, {0xefffffff, 32}, {0xe0000001, 32}};
+    for (size_t i = 0; i < sizeof odd / sizeof odd[0]; i++) {
+        CHECK(refuses(&table, odd[i][0], odd[i][1], 7, GATEWAY_ODD_PREFIX));
+        CHECK(refuses(&table, odd[i][0], odd[i][1], 65536, GATEWAY_ODD_PREFIX));
+    }
+    CHECK(refuses(&table, 0x7f000001, 8, 65536, GATEWAY_HOST_BIT));
+    CHECK(refuses(&table, 0x7f000000, 33, 7, GATEWAY_BAD_LENGTH));
+    CHECK(is_empty(&table));
+
+    const uint32_t even[][2] = {{0x7efffffe, 31}, {0x7effffff, 32}, {0x7e000000, 7}, {0x80000000, 8},  {0x80000000, 32},
+                                {0xdfffffff, 32}, {0xe0000000, 3},  {0xf0000000, 4}, {0xffffffff, 32}, {0, 0}};
+    for (size_t i = 0; i < sizeof even / sizeof even[0]; i++) {
+        CHECK(gateway_table_add(&table, even[i][0], even[i][1], 7) == GATEWAY_OK);
+        CHECK(gateway_table_withdraw(&table, even[i][0], even[i][1]) == GATEWAY_OK);
+    }
+    CHECK(is_empty(&table));
+
+    /* An entry from before: bucket 0 of length 8 begins at word 56. It is changed, not replaced, and withdrawn. */
+    slots[56] = 0x7f000000;
+    slots[57] = 6;
+    CHECK(refuses(&table, 0x7f000000, 8, 7, GATEWAY_ODD_PREFIX));
+    CHECK(gateway_table_change(&table, 0x7f000000, 8, 7) == GATEWAY_OK && slots[57] == 8);
+    memset(counters, 15, table.counters_bytes);
+    CHECK(gateway_table_withdraw(&table, 0x7f000000, 8) == GATEWAY_OK && slots[57] == 0);
+}
+
 static void run_replaced(void)
 {
     struct gateway_table table = cleared(2, 4, 1, 2, 1, 2, 1);
@@ -327,6 +358,7 @@ int main(void)
 {
     run_worked();
     run_refusals();
+    run_odd();
     run_replaced();
     run_replaced_at_15();
     run_list();

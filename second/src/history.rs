@@ -166,6 +166,31 @@ fn multiplier(random: &mut Random) -> u32 {
     }
 }
 
+/// Prefixes that lie in 127.0.0.0/8 or 224.0.0.0/4, just beside them or around them.
+const ODD: [(u32, u32); 18] = [
+    (0x7f00_0000, 8),
+    (0x7f00_0000, 9),
+    (0x7f00_0001, 32),
+    (0x7fff_ffff, 32),
+    (0xe000_0000, 4),
+    (0xe000_0000, 8),
+    (0xe100_0000, 8),
+    (0xefff_ffff, 32),
+    (0x7e00_0000, 7),
+    (0x7eff_ffff, 32),
+    (0x8000_0000, 8),
+    (0x8000_0000, 1),
+    (0xe000_0000, 3),
+    (0xdfff_ffff, 32),
+    (0xf000_0000, 4),
+    (0xf000_0000, 8),
+    (0xffff_ffff, 32),
+    (0x7000_0000, 4),
+];
+
+/// So many prefixes of a hundred are drawn from these.
+const ODD_OFTEN: usize = 4;
+
 /// The routes that a history is about: prefixes with their lengths, some within others.
 fn pool(random: &mut Random, crowded: bool, few: &[u32]) -> Vec<(u32, u32)> {
     let every = !crowded && random.percent(50);
@@ -173,6 +198,10 @@ fn pool(random: &mut Random, crowded: bool, few: &[u32]) -> Vec<(u32, u32)> {
     let many = if random.percent(2) { MOST_ROUTES } else { random.pick(&[3, 8, 20, 60, 200, 1000]) };
     let mut pool: Vec<(u32, u32)> = Vec::with_capacity(many);
     for _ in 0..many {
+        if random.percent(ODD_OFTEN) {
+            pool.push(random.pick(&ODD));
+            continue;
+        }
         let length = if every { random.within(0, 32) } else { random.pick(few) };
         let address = if narrow {
             random.word() & 0xe000_0007

@@ -25,7 +25,7 @@ const CALLS: [&str; 11] = [
 /// The refusals that each call can give.
 const GIVES: [&[usize]; CALLS.len()] = [
     &[0, 1, 2],
-    &[0, 1, 2, 3, 4, 5, 8, 9],
+    &[0, 1, 2, 3, 4, 5, 8, 9, 11],
     &[0, 1, 2, 3, 4, 7, 10],
     &[0, 1, 2, 3, 4, 5, 7],
     &[0, 1, 2],

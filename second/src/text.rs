@@ -16,7 +16,7 @@ const MANY_LINES: u64 = 5000;
 
 /// The kinds of answers. Settings and memory are right, and two buckets of two slots never raise a
 /// counter to 15: no line can reach the other refusals.
-const KINDS: [&str; 11] = [
+const KINDS: [&str; 12] = [
     "ok",
     REPLACED,
     "refused 3",
@@ -24,6 +24,7 @@ const KINDS: [&str; 11] = [
     "refused 5",
     "refused 7",
     "refused 8",
+    "refused 11",
     "a route",
     "the default",
     "none",

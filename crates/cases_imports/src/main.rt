@@ -51,9 +51,11 @@ const LEND: u32 = 9;
 //   1451: Kinds 13/1, 12/2, 16/2, 269/2, 13/3 and 13/258, 11.0.0.0/8, and kind 16/4 with a body of 2^32 - 1 bytes.
 //   1582: 11.0.0.0/8, and a header with a body of 65,537 bytes.
 //   1629: It, and such a header of another kind.
-//   1676: The front of a record of 65,548 bytes: 10.0.0.0/8 by 10.9.9.1, and an AS_PATH of 65,510 bytes. Zeros
+//   1676: 127.0.0.0/8, 239.255.255.255/32 and 224.0.0.0/4, which are odd, and 126.0.0.0/7, 224.0.0.0/3, 240.0.0.0/4
+//     and 126.255.255.255/32, which are not, all by 10.9.9.1.
+//   1927: The front of a record of 65,548 bytes: 10.0.0.0/8 by 10.9.9.1, and an AS_PATH of 65,510 bytes. Zeros
 //     follow.
-const RECORDS: [u8; 1715] = *b"\x65\x00\x00\x00\x00\x0d\x00\x01\x00\x00\x00\x05\x01\x02\x03\x04\x05\
+const RECORDS: [u8; 1966] = *b"\x65\x00\x00\x00\x00\x0d\x00\x01\x00\x00\x00\x05\x01\x02\x03\x04\x05\
     \x65\x00\x00\x00\x00\x0d\x00\x02\x00\x00\x00\x1e\x00\x00\x00\x00\x08\x0a\x00\x01\x00\x01\x00\x00\x00\x09\x00\
     \x0e\x40\x01\x01\x00\x40\x02\x00\x40\x03\x04\x0a\x09\x09\x01\
     \x65\x00\x00\x00\x00\x0d\x00\x02\x00\x00\x00\x36\x00\x00\x00\x00\x10\x0a\x01\x00\x03\x00\x01\x00\x00\x00\x09\
@@ -124,10 +126,20 @@ const RECORDS: [u8; 1715] = *b"\x65\x00\x00\x00\x00\x0d\x00\x01\x00\x00\x00\x05\
     \x07\x40\x03\x04\x0a\x09\x09\x01\x65\x00\x00\x00\x00\x0d\x00\x02\x00\x01\x00\x01\
     \x65\x00\x00\x00\x00\x0d\x00\x02\x00\x00\x00\x17\x00\x00\x00\x00\x08\x0b\x00\x01\x00\x01\x00\x00\x00\x09\x00\
     \x07\x40\x03\x04\x0a\x09\x09\x01\x65\x00\x00\x00\x00\x0d\x00\x01\x00\x01\x00\x01\
+    \x65\x00\x00\x00\x00\x0d\x00\x02\x00\x00\x00\x17\x00\x00\x00\x00\x08\x7f\x00\x01\x00\x01\x00\x00\x00\x09\x00\
+    \x07\x40\x03\x04\x0a\x09\x09\x01\x65\x00\x00\x00\x00\x0d\x00\x02\x00\x00\x00\x1a\x00\x00\x00\x00\x20\xef\xff\
+    \xff\xff\x00\x01\x00\x01\x00\x00\x00\x09\x00\x07\x40\x03\x04\x0a\x09\x09\x01\x65\x00\x00\x00\x00\x0d\x00\x02\
+    \x00\x00\x00\x17\x00\x00\x00\x00\x04\xe0\x00\x01\x00\x01\x00\x00\x00\x09\x00\x07\x40\x03\x04\x0a\x09\x09\x01\
+    \x65\x00\x00\x00\x00\x0d\x00\x02\x00\x00\x00\x17\x00\x00\x00\x00\x07\x7e\x00\x01\x00\x01\x00\x00\x00\x09\x00\
+    \x07\x40\x03\x04\x0a\x09\x09\x01\x65\x00\x00\x00\x00\x0d\x00\x02\x00\x00\x00\x17\x00\x00\x00\x00\x03\xe0\x00\
+    \x01\x00\x01\x00\x00\x00\x09\x00\x07\x40\x03\x04\x0a\x09\x09\x01\x65\x00\x00\x00\x00\x0d\x00\x02\x00\x00\x00\
+    \x17\x00\x00\x00\x00\x04\xf0\x00\x01\x00\x01\x00\x00\x00\x09\x00\x07\x40\x03\x04\x0a\x09\x09\x01\x65\x00\x00\
+    \x00\x00\x0d\x00\x02\x00\x00\x00\x1a\x00\x00\x00\x00\x20\x7e\xff\xff\xff\x00\x01\x00\x01\x00\x00\x00\x09\x00\
+    \x07\x40\x03\x04\x0a\x09\x09\x01\
     \x65\x00\x00\x00\x00\x0d\x00\x02\x00\x01\x00\x00\x00\x00\x00\x00\x08\x0a\x00\x01\x00\x01\x00\x00\x00\x09\xff\
     \xf1\x40\x03\x04\x0a\x09\x09\x01\x50\x02\xff\xe6";
 
-const CASES: [u64; 446] = [
+const CASES: [u64; 458] = [
     // A list in which 10.9.9.1 has places 1 and 3, and 10.9.9.4 place 2.
     0x6_0a090909_00_00000,
     0x6_0a090901_00_00001,
@@ -269,8 +281,7 @@ const CASES: [u64; 446] = [
     0x2_000005ab_00_00083,
     0x2_00000000_00_10000,
     0x3_00000000_00_00000,
-    // A body of 65,537 bytes, as soon as its header is read; of another kind it is stepped over. A body of
-    // 65,536 bytes, in two chunks.
+    // A body of 65,537 bytes, as soon as its header is read; of another kind it is stepped over.
     0x0_00000000_00_00000,
     0x2_0000062e_00_0002e,
     0x2_0000065c_00_00001,
@@ -281,13 +292,24 @@ const CASES: [u64; 446] = [
     0x2_00000000_00_10000,
     0x2_00000000_00_00001,
     0x3_00000000_00_00000,
+    // Odd prefixes are refused, and the records after them are done; in one chunk, and cut.
     0x0_00000000_00_00000,
-    0x2_0000068c_00_10000,
-    0x2_0001068c_00_0000c,
+    0x2_0000068c_00_000fb,
+    0x3_00000000_00_00000,
+    0x0_00000000_00_00000,
+    0x2_0000068c_00_00023,
+    0x2_000006af_00_00025,
+    0x2_000006d4_00_00001,
+    0x2_000006d5_00_000b2,
+    0x3_00000000_00_00000,
+    // A body of 65,536 bytes, in two chunks.
+    0x0_00000000_00_00000,
+    0x2_00000787_00_10000,
+    0x2_00010787_00_0000c,
     0x3_00000000_00_00000,
     // 19 for a chunk of 65,537 bytes and for a count above 4,000,000,000; counts just below go on.
     0x0_00000000_00_00000,
-    0x2_0000068c_00_10001,
+    0x2_00000787_00_10001,
     0x5_ee6b2801_00_00000,
     0x2_00000000_00_00000,
     0x5_ee6b2800_00_00000,
@@ -596,6 +618,10 @@ const CASES: [u64; 446] = [
     0x3_00000000_00_00000,
     0x3_00000000_00_00000,
     0x2_00000000_00_00001,
+    // Odd prefixes.
+    0x0_00000000_00_00000,
+    0x2_0000068c_00_000fb,
+    0x3_00000000_00_00000,
 ];
 
 // K, how much is lent to a chunk, and whether it is C that calls.

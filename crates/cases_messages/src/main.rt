@@ -29,7 +29,7 @@ const LISTS: u32 = 6;
 // From here on the calls are C's.
 const FROM_C: u32 = 7;
 
-const CASES: [u64; 380] = [
+const CASES: [u64; 394] = [
     // K 3, D 4, E 1, S 2 and unlike multipliers, over memory that was never cleared.
     0xa_03040102_00_00000,
     0xb_9e3779b1_00_00000,
@@ -60,6 +60,20 @@ const CASES: [u64; 380] = [
     0x3_00_ff_0002d_000003,
     0x3_00_ff_0002d_000003,
     0x1_0a010000_10_00009,
+    0x3_00_ff_0002d_000003,
+    // The first announced prefix is odd, 127.0.2.0/24, 224.0.2.0/24 or 239.0.2.0/24: it is refused, and the default after
+    // it is not. Those before and after them pass, and 127.1.0.0/16 is withdrawn as any other. Then the message as it was.
+    0x0_00000000_00_00000,
+    0x3_29_7e_0002d_000003,
+    0x3_29_7f_0002d_000003,
+    0x3_29_80_0002d_000003,
+    0x0_00000000_00_00000,
+    0x3_29_df_0002d_000003,
+    0x3_29_e0_0002d_000003,
+    0x3_29_ef_0002d_000003,
+    0x3_29_f0_0002d_000003,
+    0x3_16_7f_0002d_000003,
+    0x0_00000000_00_00000,
     0x3_00_ff_0002d_000003,
     // What is damaged comes upon a table that holds 10.1.0.0/16 again: its withdrawal would be seen.
     0x1_0a010000_10_00009,
@@ -432,6 +446,9 @@ const CASES: [u64; 380] = [
     0x2_080c18c0_00_00028,
     0x2_00020000_00_0002c,
     0x3_00_ff_0002e_000003,
+    // The first of them is 127.0.0.0/8, and the fourth 224.0.0.0/8.
+    0x3_1f_7f_0002e_000003,
+    0x3_25_e0_0002e_000003,
     // Settings and sizes that are refused; a withdrawal is written all the same.
     0xe_000003ff_00_00020,
     0x3_00_ff_0002e_000003,

@@ -23,7 +23,7 @@ use stream_format::Stage;
 use stream_records::keep_stage;
 use stream_records::next_record;
 use stream_records::stage_of;
-use updates::add_checked;
+use updates::add_announced;
 
 // What a record did: the counts with it, or a fault in it.
 enum Step {
@@ -102,7 +102,7 @@ fn import_record(
             length,
             hop,
         } => {
-            let number = add_checked(settings, counters, slots, prefix, length, hop);
+            let number = add_announced(settings, counters, slots, prefix, length, hop);
             Step::Good(count_route(earlier, number))
         }
         RecordRead::Hopless => Step::Good(count_hopless(earlier)),

@@ -141,6 +141,12 @@ records =
     -- I9: 10/8 and 8/8 fill a bucket: 9/8 is refused, and counted; 10/8 again is accepted, with the new hop
     ∷ case (told (begun (sample ++ dumped (8 ∷ 8 ∷ []) (by 1 ∷ []) ++ dumped (8 ∷ 9 ∷ []) (by 1 ∷ []) ++ dumped ten (by 2 ∷ []))))
     (leaves 0 (three 3 1 0) (three 0 0 0) (add T (add T (begun sample .memory) (ip 8 0 0 0) 8 1 .memory) (ip 10 0 0 0) 8 0 .memory) (dumped ten (by 2 ∷ []) ++ drop 35 sample))
+    -- I34: 127/8 and 224/4 are refused, and counted; the record after them is done
+    ∷ case (told (begun (dumped (8 ∷ 127 ∷ []) (by 1 ∷ []) ++ dumped (4 ∷ 224 ∷ []) (by 1 ∷ []) ++ sample)))
+    (leaves 0 (three 1 2 0) (three 0 0 0) (begun sample .memory) sample)
+    -- I35: 7 bits of 127 are 126/7 and 3 bits of 239 are 224/3, which are added
+    ∷ adds (dumped (7 ∷ 127 ∷ []) (by 1 ∷ [])) (ip 126 0 0 0) 7 1
+    ∷ adds (dumped (3 ∷ 239 ∷ []) (by 1 ∷ [])) (ip 224 0 0 0) 3 1
     ∷ []
 
 -- ---- Records that end the import with 12, and do nothing

@@ -18,7 +18,7 @@ use message_readers::hop_due;
 use message_readers::read_message;
 use rules::Settings;
 use settings::refuse_memory;
-use updates::add_checked;
+use updates::add_announced;
 use updates::withdraw_checked;
 
 // The report of a refused message.
@@ -88,7 +88,7 @@ fn apply_task(
 {
     match task {
         Task::Withdraw => withdraw_checked(settings, counters, slots, prefix, length),
-        Task::Add(hop) => add_checked(settings, counters, slots, prefix, length, hop),
+        Task::Add(hop) => add_announced(settings, counters, slots, prefix, length, hop),
     }
 }
 

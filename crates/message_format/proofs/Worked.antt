@@ -257,6 +257,10 @@ done =
     ∷ case (read-there (replicate 16 255 ++ (16 ∷ 0 ∷ 2 ∷ 0 ∷ 0 ∷ 15 ∷ 233 ∷ 80 ∷ 2 ∷ 15 ∷ 229 ∷ replicate 4069 0))) (leaves 0 0 0 held)
     -- M42: the reports of M33, M34 and M31 as one number
     ∷ case (map (λ r. report-number (r .report)) (apply-message T held sample hops ∷ apply-message T (empty T) sample hops ∷ apply-message T held sample [] ∷ [])) (3 ∷ 4098 ∷ 3659174697238528 ∷ [])
+    -- M50: 127/8, 224/4 and 239.255.255.255/32 are refused with 11, skipped and counted; 10/8 before them and 192/8 after are stored
+    ∷ case (read-there (announcing (8 ∷ 10 ∷ 8 ∷ 127 ∷ 4 ∷ 224 ∷ 32 ∷ 239 ∷ 255 ∷ 255 ∷ 255 ∷ 8 ∷ 192 ∷ []))) (leaves 0 2 3 (add T (add T held (ip 10 0 0 0) 8 1 .memory) (ip 192 0 0 0) 8 1 .memory))
+    -- M51: 7 bits of 127 are 126/7 and 3 bits of 239 are 224/3, which are stored
+    ∷ case (read-there (announcing (7 ∷ 127 ∷ 3 ∷ 239 ∷ []))) (leaves 0 2 0 (add T (add T held (ip 126 0 0 0) 7 1 .memory) (ip 224 0 0 0) 3 1 .memory))
     ∷ []
 
 -- ---- The withdrawal of a route

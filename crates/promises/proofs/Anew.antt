@@ -97,6 +97,7 @@ module _ {t : Settings} {routes : List Route} {m : Memory} (kept : Kept t routes
   pub next-accepted : (hop : ℕ) → hop ≤ 65535 → add-number t some (r .prefix) (r .length) hop ≡ 0
   next-accepted hop high = add-accepted (record {
     valid = record { high = next-fit .high; tight = next-fit .tight };
+    not-odd = next-fit .not-odd;
     hop-high = high;
     vacancy = λ absent. vacancy;
     room = λ absent. room;

@@ -1,6 +1,6 @@
 -- The listed conditions are what the calls check: each check of the rules is its condition, and what a chain of checks
 -- gives back is the number of the first condition that is met.
-use Prim.Native.Nat.{ℕ, zero, suc, _≤_, _<_}
+use Prim.Native.Nat.{ℕ, zero, suc, _*_, _/_, _^_, _≤_, _<_}
 use mathlib.Core.Path.{_≡_, refl, sym, ap, ap₂, _∙_}
 use mathlib.Core.Bool.{Bool, true, false, cond, not, _&&_, _||_, true≢false}
 use mathlib.Core.List.{List, [], _∷_, _++_, map, List·Memᴰ·head, List·Memᴰ·tail, List·Memᴰ·not-nil, append-nil}
@@ -9,15 +9,16 @@ use mathlib.Core.Logic.{_↔_, _≢_}
 use native.Mathlib.Omega.{arith}
 use lib.Dec.{ltb, leb, eqb}
 use lib.ListN.{length}
-use borrow.Author.Tests.{ltb-true, leb-true, leb-false, lt-ltb, le-ltb, eq-eqb, ne-eqb}
+use lib.Pow.{shr-shr}
+use borrow.Author.Tests.{ltb-true, leb-true, leb-false, lt-ltb, le-ltb, eqb-true, eqb-false, eq-eqb, ne-eqb}
 use Rattle.rules.specs.declared.Settings.{Settings}
 use Rattle.rules.specs.Tools.{within, all as every, any, lowest, or-else}
-use Rattle.rules.specs.Table.{list-in-range, in-range, Memory, counters-size, slots-size, slot-number, occupied, mark-at, prefix-at, holds, free, held, vacant, is-some, stored, refuse, sized, from-1, full, passes-15, runs-short, memory-refusal, add-refusal, withdraw-refusal, change-refusal, unless-refused, clear, add, withdraw, change, fourfold, list-refusal}
+use Rattle.rules.specs.Table.{list-in-range, in-range, prefix, Memory, counters-size, slots-size, slot-number, occupied, mark-at, prefix-at, holds, free, held, vacant, is-some, stored, refuse, sized, lies-in, odd-prefix, from-1, full, passes-15, runs-short, memory-refusal, add-refusal, withdraw-refusal, change-refusal, unless-refused, clear, add, withdraw, change, fourfold, list-refusal}
 use Rattle.rules.proofs.Members.{both}
 use Rattle.rules.proofs.Prefixes.{loose-low}
 use Rattle.rules.proofs.Refusals.{memory-order, add-order, withdraw-order, change-order}
 use Rattle.rules.specs.Calls.{Call, Clear, Add, Withdraw, Change, act}
-use Rattle.promises.specs.Demands.{Condition, outside, list-outside, some-below, every-below, there, no-slot-left, memory-conditions, route-conditions, conditions, list-conditions, NoneMet, FirstMet}
+use Rattle.promises.specs.Demands.{Condition, outside, list-outside, some-below, every-below, there, no-slot-left, _when_, memory-conditions, route-conditions, odd, conditions, list-conditions, NoneMet, FirstMet}
 use Rattle.promises.proofs.Sums.{by-cases}
 
 -- ---- The first that is met
@@ -166,6 +167,25 @@ sizes-differ : (t : Settings) (m : Memory) → not (sized t m) ≡ not (eqb (len
 unfolding sized
 sizes-differ t m = not-both (eqb (length (m .counters)) (counters-size t)) (eqb (length (m .slots)) (slots-size t))
 
+-- the first octet is 127 where the first eight bits are those of 127.0.0.0,
+octet-127 : (octet : ℕ) → eqb (octet * 2 ^ 24) (127 * 2 ^ 24) ≡ eqb octet 127
+octet-127 octet = by-cases (eqb octet 127)
+    (λ same. rw (eqb-true octet 127 same))
+    (λ other. rw other (ne-eqb _ _ (λ (e : octet * 2 ^ 24 ≡ 127 * 2 ^ 24). eqb-false octet 127 other (omega arith))))
+
+-- and 224 to 239 where the first four are those of 224.0.0.0
+octet-224 : (octet : ℕ) → eqb (octet / 2 ^ 4 * 2 ^ 28) (224 * 2 ^ 24) ≡ leb 224 octet && leb octet 239
+octet-224 octet = by-cases (leb 224 octet)
+    (λ low. rw low (by-cases (leb octet 239)
+    (λ high. rw high (eq-eqb (octet / 2 ^ 4 * 2 ^ 28) (224 * 2 ^ 24) (omega (arith, leb-true 224 octet low, leb-true octet 239 high))))
+    (λ above. rw above (ne-eqb (octet / 2 ^ 4 * 2 ^ 28) (224 * 2 ^ 24) (omega (arith, leb-false octet 239 above))))))
+    (λ below. rw below (ne-eqb (octet / 2 ^ 4 * 2 ^ 28) (224 * 2 ^ 24) (omega (arith, leb-false 224 octet below))))
+
+-- so a prefix is odd exactly if its first octet says so
+pub odd-by-octets : (p L : ℕ) → odd-prefix p L ≡ odd p L
+unfolding odd-prefix lies-in prefix odd
+odd-by-octets p L = rw (← shr-shr p 24 4, octet-127 (p / 2 ^ 24), octet-224 (p / 2 ^ 24))
+
 -- ---- So what a call gives back is the number of the first condition met
 
 -- 1 and 2 come first, whatever conditions stand after them
@@ -185,10 +205,17 @@ add-first t m p L hop =
       range-outside t,
       sizes-differ t m,
       loose-low p L,
+      odd-by-octets p L,
       stored-there t (m .slots) p L,
       full-left t (m .slots) p L,
       from-1-up L (not (there t (m .slots) p L)),
     )
+
+-- an odd prefix stops an add there, whatever comes after
+pub odd-first : (t : Settings) (m : Memory) (p L hop : ℕ) → odd p L ≡ true
+    → act t (Add p L hop) m .refusal ≡ first-met (memory-conditions t m ++ route-conditions p L ++ (11 when true) ∷ [])
+unfolding act add unless-refused first-met conditions memory-conditions route-conditions refuse
+odd-first t m p L hop its = add-first t m p L hop ∙ rw its
 
 withdraw-first : (t : Settings) (m : Memory) (p L : ℕ) → withdraw-refusal t m p L ≡ first-met (conditions t (Withdraw p L) m)
 unfolding first-met conditions memory-conditions route-conditions runs-short

@@ -5,9 +5,9 @@ use mathlib.Core.Bool.{Bool, true, false, cond, not, _&&_}
 use mathlib.Core.List.{List}
 use native.Mathlib.Omega.{arith}
 use lib.Dec.{eqb, leb, ltb}
-use borrow.Author.Tests.{eqb-true, ltb-true, leb-true}
+use borrow.Author.Tests.{eqb-true, ltb-true, leb-true, not-true}
 use Rattle.rules.specs.declared.Settings.{Settings}
-use Rattle.rules.specs.Table.{in-range, prefix, Memory}
+use Rattle.rules.specs.Table.{in-range, prefix, odd-prefix, Memory}
 use Rattle.rules.specs.Ready.{Ready}
 use Rattle.rules.proofs.Members.{both}
 use Rattle.promises.specs.History.{Route, about}
@@ -19,7 +19,9 @@ use Rattle.promises.proofs.Counters.{CountersKept}
 -- a route as the checks let it in
 unfoldable pub fit : Route → Bool
 fit r =
-    leb (r .length) 32 && (eqb (prefix (r .prefix) (r .length)) (r .prefix) && (leb (r .hop) 65535 && ltb (r .prefix) (2 ^ 32)))
+    leb (r .length) 32
+    && (eqb (prefix (r .prefix) (r .length)) (r .prefix)
+    && (not (odd-prefix (r .prefix) (r .length)) && (leb (r .hop) 65535 && ltb (r .prefix) (2 ^ 32))))
 
 -- memory and stored routes belong together
 pub record Kept (t : Settings) (routes : List Route) (m : Memory) : Type 0 where
@@ -34,6 +36,7 @@ pub record Kept (t : Settings) (routes : List Route) (m : Memory) : Type 0 where
 pub record Fit (r : Route) : Type 0 where
   pub high : r .length ≤ 32
   pub tight : prefix (r .prefix) (r .length) ≡ r .prefix
+  pub not-odd : odd-prefix (r .prefix) (r .length) ≡ false
   pub hop-high : r .hop ≤ 65535
   pub word : r .prefix < 2 ^ 32
 
@@ -42,12 +45,14 @@ unfolding fit
 fit-says r h =
     let one = both (leb (r .length) 32) _ h in
     let two = both (eqb (prefix (r .prefix) (r .length)) (r .prefix)) _ (one .1) in
-    let three = both (leb (r .hop) 65535) _ (two .1) in
+    let three = both (not (odd-prefix (r .prefix) (r .length))) _ (two .1) in
+    let four = both (leb (r .hop) 65535) _ (three .1) in
     record {
       high = leb-true _ _ (one .0);
       tight = eqb-true _ _ (two .0);
-      hop-high = leb-true _ _ (three .0);
-      word = ltb-true _ _ (three .1);
+      not-odd = not-true _ (three .0);
+      hop-high = leb-true _ _ (four .0);
+      word = ltb-true _ _ (four .1);
     }
 
 pub fits : {t : Settings} {routes : List Route} {m : Memory} → Kept t routes m → (r : Route) → Stored r routes → Fit r

@@ -9,7 +9,7 @@ use native.Mathlib.Omega.{arith}
 use lib.Dec.{ltb, lit≤}
 use borrow.Author.Tests.{ne-eqb, ltb-false, le-ltb, not-false}
 use Rattle.rules.specs.declared.Settings.{Settings}
-use Rattle.rules.specs.Table.{prefix, loose, refuse, from-1}
+use Rattle.rules.specs.Table.{prefix, loose, odd-prefix, refuse, from-1}
 use Rattle.rules.proofs.Prefixes.{loose-false}
 use Rattle.rules.proofs.Refusals.{passed}
 use Rattle.rules.specs.Calls.{Call, Clear, Add, Withdraw, Change}
@@ -33,6 +33,7 @@ checked p L after e =
 -- an accepted add: only a route that is not stored yet asks for room
 pub record Addable (t : Settings) (routes : List Route) (p L hop : ℕ) : Type 0 where
   pub valid : Checked p L
+  pub not-odd : odd-prefix p L ≡ false
   pub hop-high : hop ≤ 65535
   pub vacancy : exists (about p L) routes ≡ false → 1 ≤ L → crowded t routes p L ≡ false
   pub room : exists (about p L) routes ≡ false → 1 ≤ L → overflows t routes p L ≡ false
@@ -56,11 +57,13 @@ pub addable : (t : Settings) (routes : List Route) (p L hop : ℕ) → add-numbe
 unfolding add-number
 addable t routes p L hop e =
     let four = checked p L _ e in
-    let five = passed (ltb 65535 hop) 4 _ (four .1) in
+    let eleven = passed (odd-prefix p L) 10 _ (four .1) in
+    let five = passed (ltb 65535 hop) 4 _ (eleven .1) in
     let eight = passed (needs-place routes p L && crowded t routes p L) 7 _ (five .1) in
     let nine = passed (needs-place routes p L && overflows t routes p L) 8 _ (eight .1) in
     record {
       valid = four .0;
+      not-odd = eleven .0;
       hop-high = ltb-false 65535 hop (five .0);
       vacancy = unstopped routes p L _ (eight .0);
       room = unstopped routes p L _ (nine .0);
@@ -73,10 +76,16 @@ add-accepted {t} {routes} {p} {L} {hop} ok =
     rw (
       le-ltb 32 L (ok .valid .high),
       loose-false p L .1 (ok .valid .tight),
+      ok .not-odd,
       le-ltb 65535 hop (ok .hop-high),
       never-stops routes p L (crowded t routes p L) (ok .vacancy),
       never-stops routes p L (overflows t routes p L) (ok .room),
     )
+
+-- an add of an odd prefix that has passed 3 and 4 is not, whatever is stored
+pub add-odd : (t : Settings) (routes : List Route) (p L hop : ℕ) → Checked p L → odd-prefix p L ≡ true → add-number t routes p L hop ≡ 11
+unfolding add-number refuse
+add-odd t routes p L hop valid its = rw (le-ltb 32 L (valid .high), loose-false p L .1 (valid .tight), its)
 
 -- an accepted withdrawal is of a stored route
 pub withdrawable : (routes : List Route) (p L : ℕ) → withdraw-number routes p L ≡ 0 → Checked p L × (exists (about p L) routes ≡ true)
@@ -112,9 +121,10 @@ unfolding number-given add-number withdraw-number change-number
 number-not-10 t routes Clear = omega arith
 number-not-10 t routes (Add p L hop) =
     not-before-5 10 p L _ (lit≤ tt)
+    (not-this 10 (odd-prefix p L) 11 _ (omega arith)
     (not-this 10 (ltb 65535 hop) 5 _ (omega arith)
     (not-this 10 (needs-place routes p L && crowded t routes p L) 8 _ (omega arith)
-    (not-this 10 (needs-place routes p L && overflows t routes p L) 9 0 (omega arith) (omega arith))))
+    (not-this 10 (needs-place routes p L && overflows t routes p L) 9 0 (omega arith) (omega arith)))))
 number-not-10 t routes (Withdraw p L) = not-before-5 10 p L _ (lit≤ tt) (stored-only routes p L)
 number-not-10 t routes (Change p L hop) = not-before-5 10 p L _ (lit≤ tt) (not-this 10 (ltb 65535 hop) 5 _ (omega arith) (stored-only routes p L))
 
@@ -123,6 +133,7 @@ pub add-not-8 : (t : Settings) (routes : List Route) (p L hop : ℕ) → (1 ≤ 
 unfolding add-number refuse
 add-not-8 t routes p L hop empty =
     not-before-5 8 p L _ (lit≤ tt)
+    (not-this 8 (odd-prefix p L) 11 _ (omega arith)
     (not-this 8 (ltb 65535 hop) 5 _ (omega arith)
     (rw (never-stops routes p L (crowded t routes p L) (λ absent. empty))
-    (not-this 8 (needs-place routes p L && overflows t routes p L) 9 0 (omega arith) (omega arith))))
+    (not-this 8 (needs-place routes p L && overflows t routes p L) 9 0 (omega arith) (omega arith)))))

@@ -14,12 +14,12 @@ use Rattle.rules.specs.Table.{bucket, Memory, lookup}
 use Rattle.rules.specs.Calls.{Call, Clear, Add, Withdraw, Change, word-sized, all-word-sized, act, run}
 use Rattle.rules.proofs.Worked.{ip, T}
 use Rattle.promises.specs.History.{Route, stored-by, History}
-use Rattle.promises.specs.Demands.{Finds, Reordered, Swapped, Longest, adds}
+use Rattle.promises.specs.Demands.{Finds, Reordered, Swapped, Longest, odd, adds}
 use Rattle.promises.proofs.Showing.{sevens, showing}
 use Rattle.promises.proofs.Paper.{route}
 use Rattle.promises.proofs.Matches.{right}
 use Rattle.promises.proofs.Histories.{made, history-of}
-use Rattle.promises.proofs.Promises.{finds-longest, finds-default, none-exactly, numbers-given, stored-accepted, replaced-found, replaced-others, freed-again, freed-for-others, all-accepted, same-numbers}
+use Rattle.promises.proofs.Promises.{finds-longest, finds-default, none-exactly, numbers-given, stored-accepted, replaced-found, replaced-others, odd-given-eleven, freed-again, freed-for-others, all-accepted, same-numbers}
 
 -- ---- The histories
 
@@ -39,10 +39,11 @@ day =
     ∷ Add (ip 9 0 0 0) 8 6
     ∷ Withdraw (ip 8 0 0 0) 8
     ∷ Add (ip 9 0 0 0) 8 6
+    ∷ Add (ip 127 0 0 0) 8 65536
     ∷ []
 
 day-answers : List ℕ
-day-answers = 0 ∷ 0 ∷ 0 ∷ 0 ∷ 4 ∷ 3 ∷ 5 ∷ 7 ∷ 0 ∷ 0 ∷ 8 ∷ 0 ∷ 0 ∷ []
+day-answers = 0 ∷ 0 ∷ 0 ∷ 0 ∷ 4 ∷ 3 ∷ 5 ∷ 7 ∷ 0 ∷ 0 ∷ 8 ∷ 0 ∷ 0 ∷ 11 ∷ []
 
 -- the first two of these calls
 morning : List Call
@@ -118,6 +119,11 @@ module _ {t : Settings} {before : Memory} (worked : Worked t before) where
   freed-met : act t (Add (ip 10 1 0 0) 16 65535) (act t (Withdraw (ip 10 1 0 0) 16) (after day) .memory) .refusal ≡ 0
   unfolding day day-answers showing
   freed-met = freed-again day-lived (ip 10 1 0 0) 16 65535 (lit< tt) (lit≤ tt) (numbers-given day-lived (Withdraw (ip 10 1 0 0) 16) refl)
+
+  -- 239.255.255.255/32 is odd, and is given 11
+  odd-met : act t (Add (ip 239 255 255 255) 32 1) (after day) .refusal ≡ 11
+  unfolding showing odd
+  odd-met = odd-given-eleven day-lived (ip 239 255 255 255) 32 1 (lit< tt) (lit≤ tt) refl refl
 
   -- with 8/8 withdrawn from its full bucket, 9/8 of that bucket is not told that it is full
   place-met : act t (Add (ip 9 0 0 0) 8 6) (act t (Withdraw (ip 8 0 0 0) 8) (after pair) .memory) .refusal ≢ 8

@@ -10,17 +10,20 @@ use mathlib.Core.List.{List, []}
 use mathlib.Core.Logic.{_↔_, _≢_}
 use native.Mathlib.Nat.{zero-add}
 use lib.Dec.{eqb}
+use borrow.Author.Tests.{lt-ltb}
 use Rattle.rules.specs.declared.Settings.{Settings}
 use Rattle.rules.specs.Tools.{all}
-use Rattle.rules.specs.Table.{in-range, bucket, Memory, sized, refuse, memory-refusal, unless-refused, clear, lookup, match-vector, bits-where}
+use Rattle.rules.specs.Table.{in-range, prefix, bucket, Memory, sized, refuse, memory-refusal, unless-refused, clear, lookup, match-vector, bits-where}
 use Rattle.rules.specs.Calls.{Call, Clear, Add, Withdraw, word-sized, act}
 use Rattle.rules.proofs.Refusals.{memory-order}
 use Rattle.promises.specs.History.{Route, about, stored-by, SingleCalls, History}
-use Rattle.promises.specs.Demands.{Stored, sum, number, Reordered, matches, Longest, NoMatch, Finds, SaysNone, SameButHop, number-given, paper, covered, probes-down-to, lengths-in-use, adds, filter-sum}
+use Rattle.promises.specs.Demands.{Stored, sum, number, Reordered, matches, Longest, NoMatch, Finds, SaysNone, SameButHop, odd, number-given, paper, covered, probes-down-to, lengths-in-use, adds, filter-sum}
 use Rattle.promises.proofs.Sums.{sum-reordered}
 use Rattle.promises.proofs.Counters.{filter-sum-kept}
-use Rattle.promises.proofs.Kept.{Kept, ready}
+use Rattle.promises.proofs.Kept.{Kept, fits, ready}
 use Rattle.promises.proofs.Refusals.{no-memory-refusal, number-by-routes}
+use Rattle.promises.proofs.Numbers.{add-odd}
+use Rattle.promises.proofs.Conditions.{odd-by-octets}
 use Rattle.promises.proofs.Histories.{Together, kept-run, kept, answers-on-paper, routes-on-paper}
 use Rattle.promises.proofs.Matches.{vector-by}
 use Rattle.promises.proofs.Lookups.{lookup-by-routes, vector-by-routes}
@@ -76,6 +79,13 @@ module _ {t : Settings} {calls : List Call} {answers : List ℕ} {m : Memory} (h
       → lookup t (act t (Add (r .prefix) (r .length) hop) m .memory) address ≡ lookup t m address
   replaced-others = again-others (kept history)
 
+  -- An add of an odd prefix is given 11, whatever is stored and whatever the hop.
+  pub odd-given-eleven : (p L hop : ℕ) → p < 2 ^ 32 → L ≤ 32 → prefix p L ≡ p → odd p L ≡ true → act t (Add p L hop) m .refusal ≡ 11
+  unfolding number-given word-sized
+  odd-given-eleven p L hop word high tight its =
+      numbers-given (Add p L hop) (lt-ltb p (2 ^ 32) word)
+      ∙ add-odd t routes p L hop (record { high = high; tight = tight }) (odd-by-octets p L ∙ its)
+
   -- Number 10 is never given.
   pub never-ten : (call : Call) → word-sized call ≡ true → act t call m .refusal ≢ 10
   never-ten = never-10 (kept history)
@@ -117,6 +127,10 @@ module _ {t : Settings} {calls : List Call} {answers : List ℕ} {m : Memory} (h
   -- No two stored routes have one prefix and length, so that each is added once.
   pub stored-once : (p L : ℕ) → number (about p L) routes ≤ 1
   stored-once = kept history .once
+
+  -- No stored route is odd.
+  pub none-odd : (r : Route) → Stored r routes → odd (r .prefix) (r .length) ≡ false
+  none-odd r stands = sym (odd-by-octets (r .prefix) (r .length)) ∙ fits (kept history) r stands .not-odd
 
   -- Settings and sizes are not at fault: no call is given 1 or 2.
   pub checks-passed : (after : ℕ) → memory-refusal t m after ≡ after

@@ -1,10 +1,10 @@
--- Demand 1, and a stored prefix added again, of any settings, any lent memory and any arguments, damaged and wrong ones
+-- Demand 1, and an odd and a stored prefix added, of any settings, any lent memory and any arguments, damaged and wrong ones
 -- too. That every call ends and does nothing undefined is what the check of crates/table proves of each function, none of
 -- which requires anything. The list of numbers and their conditions is in specs/Demands.antt.
 use Prim.Native.Nat.{ℕ, _≤_}
 use mathlib.Core.Path.{_≡_, refl, sym, ap, _∙_}
-use mathlib.Core.Bool.{Bool, true, false, cond, not}
-use mathlib.Core.List.{List, map}
+use mathlib.Core.Bool.{Bool, true, false, cond, not, true≢false}
+use mathlib.Core.List.{List, [], _∷_, _++_, map, List·Memᴰ·head, List·Memᴰ·tail}
 use mathlib.Core.Logic.{_↔_, _≢_}
 use mathlib.Core.Option.{some}
 use lib.Dec.{eqb, lit≤}
@@ -17,8 +17,8 @@ use Rattle.rules.specs.Tools.{all}
 use Rattle.rules.specs.Table.{Memory, lent, slot-number, mark-word, default-word, mark-of, held, needs-slot, memory-refusal, change-refusal, changed, unless-refused, clear, add, withdraw, change, match-vector, route-answer, default-answer, place-answer, refused, answer-of, lookup}
 use Rattle.rules.proofs.Updates.{default-in-place, stored-in-place, held-is-stored, added-in-place, changed-default, changed-mark, changed-counters, add-is-change}
 use Rattle.rules.specs.Calls.{Call, Clear, Add, Withdraw, Change, act}
-use Rattle.promises.specs.Demands.{there, memory-conditions, route-conditions, conditions, numbers-by, NoneMet, FirstMet}
-use Rattle.promises.proofs.Conditions.{given-exactly, never-given, none-exactly, stored-there, memory-first, call-first, memory-numbered, call-numbered}
+use Rattle.promises.specs.Demands.{_when_, there, memory-conditions, route-conditions, odd, conditions, numbers-by, NoneMet, FirstMet}
+use Rattle.promises.proofs.Conditions.{numbered, given-exactly, never-given, none-exactly, stored-there, odd-by-octets, memory-first, odd-first, call-first, memory-numbered, call-numbered}
 use Rattle.promises.proofs.Sums.{by-cases}
 
 module _ (t : Settings) (call : Call) (m : Memory) where
@@ -50,24 +50,51 @@ never-six t (Add p L hop) m = never-unlisted t (Add p L hop) m 6 (lit≤ tt) ref
 never-six t (Withdraw p L) m = never-unlisted t (Withdraw p L) m 6 (lit≤ tt) refl
 never-six t (Change p L hop) m = never-unlisted t (Change p L hop) m 6 (lit≤ tt) refl
 
+-- Where a call is refused, the lent memory is left unchanged.
+pub refused-unchanged : (t : Settings) (call : Call) (m : Memory) → act t call m .refusal ≢ 0 → act t call m .memory ≡ m
+unfolding act clear add withdraw change unless-refused
+refused-unchanged t Clear m bad = rw (ne-eqb _ 0 bad)
+refused-unchanged t (Add p L hop) m bad = rw (ne-eqb _ 0 bad)
+refused-unchanged t (Withdraw p L) m bad = rw (ne-eqb _ 0 bad)
+refused-unchanged t (Change p L hop) m bad = rw (ne-eqb _ 0 bad)
+
+-- ---- An odd prefix added
+
+module _ (t : Settings) (m : Memory) (p L hop : ℕ) (its : odd p L ≡ true) where
+  -- An add of an odd prefix is given 11 where it is given none of 1 to 4, whatever is stored and whatever the hop.
+  pub odd-numbers : (n : ℕ) → 1 ≤ n → (act t (Add p L hop) m .refusal ≡ n) ↔ FirstMet n (memory-conditions t m ++ route-conditions p L ++ (11 when true) ∷ [])
+  odd-numbers = given-exactly _ (odd-first t m p L hop its)
+
+  -- It is never accepted,
+  pub odd-refused : act t (Add p L hop) m .refusal ≢ 0
+  unfolding numbered all memory-conditions route-conditions
+  odd-refused accepted = true≢false (none-exactly _ (odd-first t m p L hop its) refl .0 accepted (11 when true) (search (List·Memᴰ·head, List·Memᴰ·tail) depth 8))
+
+  -- so it replaces nothing, and an old entry stays as it is.
+  pub odd-replaces-nothing : act t (Add p L hop) m .memory ≡ m
+  odd-replaces-nothing = refused-unchanged t (Add p L hop) m odd-refused
+
 -- ---- A stored prefix added again
 
 module _ (t : Settings) (m : Memory) (p L hop : ℕ) where
-  -- An add of a stored prefix is a change: it is given the number that a change is given, and writes what a change writes.
-  pub stored-changes : there t (m .slots) p L ≡ true → act t (Add p L hop) m ≡ act t (Change p L hop) m
+  -- An add of a stored prefix that is not odd is a change: it is given the number that a change is given, and writes what a change writes.
+  pub stored-changes : odd p L ≡ false → there t (m .slots) p L ≡ true → act t (Add p L hop) m ≡ act t (Change p L hop) m
   unfolding act
-  stored-changes stands = add-is-change t m p L hop (stored-there t (m .slots) p L ∙ stands)
+  stored-changes usual stands = add-is-change t m p L hop (odd-by-octets p L ∙ usual) (stored-there t (m .slots) p L ∙ stands)
 
-  -- So it is given neither 8 nor 9.
+  -- So an add of a stored prefix is given neither 8 nor 9,
   pub stored-needs-no-room : there t (m .slots) p L ≡ true → (act t (Add p L hop) m .refusal ≢ 8) × (act t (Add p L hop) m .refusal ≢ 9)
-  unfolding numbers-by all
-  stored-needs-no-room stands =
-      rw (stored-changes stands) (never-unlisted t (Change p L hop) m 8 (lit≤ tt) refl, never-unlisted t (Change p L hop) m 9 (lit≤ tt) refl)
+  unfolding numbers-by all memory-conditions route-conditions
+  stored-needs-no-room stands = by-cases (odd p L)
+      (λ its. (never-given _ (odd-first t m p L hop its) 8 (lit≤ tt) refl, never-given _ (odd-first t m p L hop its) 9 (lit≤ tt) refl))
+      (λ usual. rw (stored-changes usual stands) (never-unlisted t (Change p L hop) m 8 (lit≤ tt) refl, never-unlisted t (Change p L hop) m 9 (lit≤ tt) refl))
 
-  -- Every counter stays.
+  -- and every counter stays.
   pub counters-stay : there t (m .slots) p L ≡ true → act t (Add p L hop) m .memory .counters ≡ m .counters
   unfolding act change unless-refused
-  counters-stay stands = ap (λ u. u .memory .counters) (stored-changes stands) ∙ go (eqb (change-refusal t m p L hop) 0)
+  counters-stay stands = by-cases (odd p L)
+      (λ its. ap (λ left. left .counters) (odd-replaces-nothing t m p L hop its))
+      (λ usual. ap (λ u. u .memory .counters) (stored-changes usual stands) ∙ go (eqb (change-refusal t m p L hop) 0))
     where
       go : (accepted : Bool) → cond accepted (changed t m p L hop) m .counters ≡ m .counters
       go true = changed-counters t m p L hop
@@ -88,15 +115,7 @@ module _ (t : Settings) (m : Memory) (p L hop : ℕ) where
   mark-word-only up s lowest accepted =
       accepted-in-place accepted (stored-in-place t (m .slots) p L (held-is-stored t (m .slots) p L up s lowest)) ∙ changed-mark t m p L hop up s lowest
 
--- ---- Refused calls
-
--- Where a call is refused, the lent memory is left unchanged.
-pub refused-unchanged : (t : Settings) (call : Call) (m : Memory) → act t call m .refusal ≢ 0 → act t call m .memory ≡ m
-unfolding act clear add withdraw change unless-refused
-refused-unchanged t Clear m bad = rw (ne-eqb _ 0 bad)
-refused-unchanged t (Add p L hop) m bad = rw (ne-eqb _ 0 bad)
-refused-unchanged t (Withdraw p L) m bad = rw (ne-eqb _ 0 bad)
-refused-unchanged t (Change p L hop) m bad = rw (ne-eqb _ 0 bad)
+-- ---- Refused lookups
 
 -- what a search's place answers carries no refusal
 place-accepted : (t : Settings) (slots : List ℕ) (ones : ℕ) (place : Place) → place-answer t slots ones place .refusal ≡ 0

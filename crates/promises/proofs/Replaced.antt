@@ -108,6 +108,7 @@ module _ {t : Settings} {routes : List Route} {m : Memory} (kept : Kept t routes
   unfolding number-given
   again-number = add-accepted (record {
     valid = record { high = its .high; tight = its .tight };
+    not-odd = its .not-odd;
     hop-high = high;
     vacancy = λ absent low. absurd (true≢false (sym listed ∙ absent));
     room = λ absent low. absurd (true≢false (sym listed ∙ absent));
@@ -118,7 +119,7 @@ module _ {t : Settings} {routes : List Route} {m : Memory} (kept : Kept t routes
 
   changes : act t (Add (r .prefix) (r .length) hop) m ≡ act t (Change (r .prefix) (r .length) hop) m
   unfolding act
-  changes = add-is-change t m (r .prefix) (r .length) hop (stored-exists kept (r .prefix) (r .length) (its .high) (its .tight) (its .word) ∙ listed)
+  changes = add-is-change t m (r .prefix) (r .length) hop (its .not-odd) (stored-exists kept (r .prefix) (r .length) (its .high) (its .tight) (its .word) ∙ listed)
 
   kept-again : Kept t (with-hop (r .prefix) (r .length) hop routes) then
   unfolding noted written word-sized

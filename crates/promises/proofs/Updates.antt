@@ -10,7 +10,7 @@ use lib.Dec.{eqb, ltb}
 use borrow.Author.Tests.{eqb-true, eq-eqb, ltb-false, lt-ltb, le-leb, not-true, not-false}
 use Rattle.rules.specs.declared.Settings.{Settings}
 use Rattle.rules.specs.Tools.{count}
-use Rattle.rules.specs.Table.{prefix, positions, Memory, lent, slot-number, mark-of, default-mark, occupied, stored, held, vacant, free, is-some, full, added, withdrawn, changed}
+use Rattle.rules.specs.Table.{prefix, odd-prefix, positions, Memory, lent, slot-number, mark-of, default-mark, occupied, stored, held, vacant, free, is-some, full, added, withdrawn, changed}
 use Rattle.rules.specs.Ready.{Ready}
 use Rattle.rules.proofs.Members.{any-false}
 use Rattle.rules.proofs.Lowest.{some-lowest}
@@ -50,11 +50,11 @@ settled {t} p L counters slots old new kept paper kept-slots kept-counters new-f
   once = λ q M. omega (arith, paper (one (about q M)), once q M);
 }
 
--- a valid route is fit
-new-fits : (p L hop : ℕ) → Checked p L → hop ≤ 65535 → p < 2 ^ 32 → worth (one (λ r. not (fit r))) p L (some hop) ≡ 0
+-- a valid route that is not odd is fit
+new-fits : (p L hop : ℕ) → Checked p L → odd-prefix p L ≡ false → hop ≤ 65535 → p < 2 ^ 32 → worth (one (λ r. not (fit r))) p L (some hop) ≡ 0
 unfolding worth fit
-new-fits p L hop valid high word =
-    rw (le-leb L 32 (valid .high), eq-eqb (prefix p L) p (valid .tight), le-leb hop 65535 high, lt-ltb p (2 ^ 32) word)
+new-fits p L hop valid not-odd high word =
+    rw (le-leb L 32 (valid .high), eq-eqb (prefix p L) p (valid .tight), not-odd, le-leb hop 65535 high, lt-ltb p (2 ^ 32) word)
 
 weigh-hop : (weight : ℕ → ℕ → ℕ) (q hop : ℕ) → hop ≤ 65535 → weigh weight q (mark-of hop) ≡ weight q (mark-of hop)
 weigh-hop weight q hop high = weigh-occupied weight q (mark-of hop) (mark-occupied hop high)
@@ -108,7 +108,7 @@ module _ {t : Settings} {routes : List Route} {m : Memory} (kept : Kept t routes
       (λ weight. weigh-free weight 0 _ (default-stands (ok .valid .tight) ∙ absent))
       (λ weight. weigh-hop weight 0 hop (ok .hop-high)) paper)
       (kept-unmoved p 0 (kept .counters) none (some hop) paper (λ M j of-m. sym (default-lands t p M j (some hop) of-m)))
-      (new-fits p 0 hop (ok .valid) (ok .hop-high) word)
+      (new-fits p 0 hop (ok .valid) (ok .not-odd) (ok .hop-high) word)
       (room-added 0 hop ok absent) (once-added 0 hop absent))
   new-keeps (suc L) hop ok absent =
       let paper = paper-added p (suc L) hop routes absent in
@@ -122,7 +122,7 @@ module _ {t : Settings} {routes : List Route} {m : Memory} (kept : Kept t routes
       (λ weight. weigh-free weight _ _ (not-true _ (low .passes)))
       (λ weight. weigh-hop weight p hop (ok .hop-high)) paper)
       (kept-added p (suc L) (kept .counters) hop of-l paper)
-      (new-fits p (suc L) hop (ok .valid) (ok .hop-high) word)
+      (new-fits p (suc L) hop (ok .valid) (ok .not-odd) (ok .hop-high) word)
       (room-added (suc L) hop ok absent) (once-added (suc L) hop absent))
 
   -- ---- The stored route that a withdrawal or a change is about
@@ -198,11 +198,14 @@ module _ {t : Settings} {routes : List Route} {m : Memory} (kept : Kept t routes
   -- ---- Change
 
   -- another hop lands nowhere else and is about nothing else
-  other-hop : (L old hop : ℕ) {after : List Route} (slots : List ℕ) → Paper p L (some old) (some hop) routes after → Checked p L → hop ≤ 65535
+  other-hop : (L old hop : ℕ) {after : List Route} (slots : List ℕ) → List·Memᴰ (route p L old) routes → Paper p L (some old) (some hop) routes after → hop ≤ 65535
       → SlotsKept t after slots → Kept t after (lent (m .counters) slots)
   unfolding worth about
-  other-hop L old hop slots paper valid high kept-slots = settled p L (m .counters) slots (some old) (some hop) kept paper
-      kept-slots (kept-unmoved p L (kept .counters) (some old) (some hop) paper (λ M j of-m. refl)) (new-fits p L hop valid high word)
+  other-hop L old hop slots member paper high kept-slots =
+      let its = fits kept (route p L old) member in
+      settled p L (m .counters) slots (some old) (some hop) kept paper
+      kept-slots (kept-unmoved p L (kept .counters) (some old) (some hop) paper (λ M j of-m. refl))
+      (new-fits p L hop (record { high = its .high; tight = its .tight }) (its .not-odd) high word)
       (λ M j of-m. omega (arith, kept .small M j of-m)) (λ q M. omega (arith, kept .once q M))
 
   -- whatever the paper then is on which the route has the new hop
@@ -212,14 +215,14 @@ module _ {t : Settings} {routes : List Route} {m : Memory} (kept : Kept t routes
   hop-keeps zero hop after valid high there paper =
       let at = in-word (valid .tight) there in
       rw (changed-default t m p 0 hop refl)
-      (other-hop 0 (at .hop) hop _ (paper (at .hop) (at .member)) valid high
+      (other-hop 0 (at .hop) hop _ (at .member) (paper (at .hop) (at .member)) high
       (default-step (kept .slots) p (mark-of hop) (some (at .hop)) (some hop) (at .weighs) (λ weight. weigh-hop weight 0 hop high) (paper (at .hop) (at .member))))
   hop-keeps (suc L) hop after valid high there paper =
       let of-l : Ready t (suc L) = ready (kept .range) (omega arith) (valid .high) in
       let s = in-slot (suc L) of-l there in
       let at = s .2 in
       rw (changed-slot t m p (suc L) hop (suc-ne-zero L) (s .0) (s .1))
-      (other-hop (suc L) (at .hop) hop _ (paper (at .hop) (at .member)) valid high
+      (other-hop (suc L) (at .hop) hop _ (at .member) (paper (at .hop) (at .member)) high
       (slot-step (kept .slots) p (suc L) (s .0) p (mark-of hop) (some (at .hop)) (some hop) of-l (at .within) (at .weighs) (λ weight. weigh-hop weight p hop high)
       (paper (at .hop) (at .member))))
 

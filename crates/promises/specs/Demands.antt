@@ -1,5 +1,5 @@
 -- The words of the demands, as definitions over the stored routes.
-use Prim.Native.Nat.{ℕ, zero, suc, _+_, _-_, _*_, _%_, _^_, _≤_, _<_}
+use Prim.Native.Nat.{ℕ, zero, suc, _+_, _-_, _*_, _/_, _%_, _^_, _≤_, _<_}
 use mathlib.Core.Path.{_≡_}
 use mathlib.Core.Bool.{Bool, true, false, cond, not, _&&_, _||_}
 use mathlib.Core.List.{List, [], _∷_, _++_, map, List·Memᴰ}
@@ -9,7 +9,7 @@ use lib.Dec.{ltb, leb, eqb}
 use Rattle.rules.specs.Tools.{all, any, count, those}
 use Rattle.rules.specs.declared.Settings.{Settings}
 use Rattle.rules.specs.declared.Answer.{Answer}
-use Rattle.rules.specs.Table.{prefix, positions, bucket, filter-bits, Memory, counters-size, counter-place, counter-places, slots-size, slot-number, occupied, mark-at, prefix-at, default-mark, refuse, loose, from-1, hits, down-from}
+use Rattle.rules.specs.Table.{prefix, positions, bucket, filter-bits, Memory, counters-size, counter-place, counter-places, slots-size, slot-number, occupied, mark-at, prefix-at, default-mark, refuse, loose, odd-prefix, from-1, hits, down-from}
 use Rattle.rules.specs.Calls.{Call, Clear, Add, Withdraw, Change, Run, each}
 use Rattle.promises.specs.History.{Route, about, noted}
 
@@ -63,13 +63,20 @@ memory-conditions t m =
 unfoldable pub route-conditions : (p L : ℕ) → List Condition
 route-conditions p L = (3 when ltb 32 L) ∷ (4 when ltb 0 (p % 2 ^ (32 - L))) ∷ []
 
+-- what an add looks at then, by the first octet: 127 from length 8 on, and 224 to 239 from length 4 on
+unfoldable pub odd : (p L : ℕ) → Bool
+odd p L =
+    let octet = p / 2 ^ 24 in
+    (leb 8 L && eqb octet 127) || (leb 4 L && (leb 224 octet && leb octet 239))
+
 -- each call's conditions, in the order in which they are looked at
 unfoldable pub conditions : Settings → Call → Memory → List Condition
 conditions t Clear m = memory-conditions t m
 conditions t (Add p L hop) m =
     memory-conditions t m
     ++ route-conditions p L
-    ++ (5 when ltb 65535 hop)
+    ++ (11 when odd p L)
+    ∷ (5 when ltb 65535 hop)
     ∷ (8 when ltb 0 L && not (there t (m .slots) p L) && no-slot-left t (m .slots) p L)
     ∷ (9 when ltb 0 L && not (there t (m .slots) p L) && any (λ i. ltb 15 (getD (m .counters) i 0 + hits t p L i)) (counter-places t p L))
     ∷ []
@@ -89,7 +96,7 @@ conditions t (Change p L hop) m =
 -- the numbers that each call can give back, in that order
 unfoldable pub numbers-by : Call → List ℕ
 numbers-by Clear = 1 ∷ 2 ∷ []
-numbers-by (Add p L hop) = 1 ∷ 2 ∷ 3 ∷ 4 ∷ 5 ∷ 8 ∷ 9 ∷ []
+numbers-by (Add p L hop) = 1 ∷ 2 ∷ 3 ∷ 4 ∷ 11 ∷ 5 ∷ 8 ∷ 9 ∷ []
 numbers-by (Withdraw p L) = 1 ∷ 2 ∷ 3 ∷ 4 ∷ 7 ∷ 10 ∷ []
 numbers-by (Change p L hop) = 1 ∷ 2 ∷ 3 ∷ 4 ∷ 5 ∷ 7 ∷ []
 
@@ -226,8 +233,9 @@ unfoldable pub add-number : Settings → List Route → (p L hop : ℕ) → ℕ
 add-number t routes p L hop =
     refuse (ltb 32 L) 3
     (refuse (loose p L) 4
+    (refuse (odd-prefix p L) 11
     (refuse (ltb 65535 hop) 5
-    (refuse (needs-place routes p L && crowded t routes p L) 8 (refuse (needs-place routes p L && overflows t routes p L) 9 0))))
+    (refuse (needs-place routes p L && crowded t routes p L) 8 (refuse (needs-place routes p L && overflows t routes p L) 9 0)))))
 
 -- those of a withdrawal
 unfoldable pub withdraw-number : List Route → (p L : ℕ) → ℕ

@@ -1,9 +1,10 @@
 // What a call checks before it looks into the memory: an update 1 to 4 of its route, and 5 of its hop;
-// a list of addresses 1, 2 and 18. 0 is no refusal.
+// an add 11 between them; a list of addresses 1, 2 and 18. 0 is no refusal.
 ghost use mathlib.Core.Path.{_≡_};
 ghost use lib.Dec.{ltb};
 ghost use lib.ListN.{length};
-ghost use Rattle.rules.specs.Table.{Memory, lent, refuse, route-refusal, list-refusal};
+ghost use Rattle.rules.specs.Table.{Memory, lent, refuse, memory-refusal, add-checks, route-refusal, list-refusal};
+use prefixes::is_odd;
 use prefixes::prefix_of;
 use rules::Settings;
 use settings::refuse_memory;
@@ -26,7 +27,17 @@ pub fn refuse_route(settings: Settings, counters: &[u8], slots: &[u32], p: u32, 
     0
 }
 
-// 1 to 5, which every update that brings a hop checks.
+// 5, which a hop above 65,535 gets.
+fn refuse_high(hop: u32) -> u32
+    ensures { λ r. ⌜ r ≡ refuse (ltb 65535 hop) 5 0 ⌝ }
+{
+    if 65535 < hop {
+        return 5;
+    }
+    0
+}
+
+// 1 to 5, which a change checks.
 pub fn refuse_hop(
     settings: Settings,
     counters: &[u8],
@@ -41,10 +52,28 @@ pub fn refuse_hop(
     if refusal != 0 {
         return refusal;
     }
-    if 65535 < hop {
-        return 5;
+    refuse_high(hop)
+}
+
+// 1 to 4, 11 and 5, which an add checks.
+pub fn refuse_add(
+    settings: Settings,
+    counters: &[u8],
+    slots: &[u32],
+    p: u32,
+    length: u32,
+    hop: u32,
+) -> u32
+    ensures { λ r. ⌜ r ≡ memory-refusal settings (lent (now (counters .entry)) (now (slots .entry))) (add-checks p length hop 0) ⌝ }
+{
+    let route = refuse_route(settings, counters, slots, p, length);
+    if route != 0 {
+        return route;
     }
-    0
+    if is_odd(p, length) {
+        return 11;
+    }
+    refuse_high(hop)
 }
 
 // 1, 2 and 18, for memory of these many counters and words and for so many addresses and results,

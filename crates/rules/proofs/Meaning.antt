@@ -12,7 +12,7 @@ use Rattle.rules.specs.declared.Place.the-variants.{At, Absent}
 use Rattle.rules.specs.declared.Vacancy.{Vacancy}
 use Rattle.rules.specs.Table.{Memory, lent, left, default-word, default-mark, mark-of, occupied, held, vacant, is-some, stored, refuse, from-1, needs-slot, full, passes-15, runs-short, unless-refused, with-default, with-found, counter-places, step-each, add-refusal, withdraw-refusal, change-refusal, added, withdrawn, changed, add, withdraw, change, found-or}
 use Rattle.rules.specs.Meaning.{vacancy-of, bucket-place, place-added, place-withdrawn, place-changed, default-changed}
-use Rattle.rules.proofs.Refusals.{RouteFitted, HopFitted, route-fits}
+use Rattle.rules.proofs.Refusals.{RouteFitted, HopFitted, AddChecked, route-fits, checks-fit}
 
 -- the default's word is changed without a look at the counters
 pub default-alone : (t : Settings) (counters slots : List ℕ) (mark : ℕ) {r : ℕ} {after : List ℕ}
@@ -47,10 +47,6 @@ module _ {t : Settings} {counters slots : List ℕ} {p L hop : ℕ} (fit : HopFi
   unfolding change change-refusal stored refuse changed default-changed
   change-at-0 z = rw (route-fits t counters slots p L (fit .route), le-ltb _ _ (fit .small), eq-eqb L 0 z)
 
-  pub add-at-0 : L ≡ 0 → add t (lent counters slots) p L hop ≡ left 0 counters (set slots (default-word t) (mark-of hop))
-  unfolding add add-refusal needs-slot from-1 refuse unless-refused added changed with-default
-  add-at-0 z = rw (route-fits t counters slots p L (fit .route), le-ltb _ _ (fit .small), eq-eqb L 0 z)
-
   module _ (up : L ≡ 0 → ⊥) {place : Place} (searched : place ≡ bucket-place t slots p L) where
     pub change-by-place : change t (lent counters slots) p L hop ≡ place-changed (lent counters slots) p hop place
     unfolding change change-refusal stored refuse changed bucket-place unless-refused is-some with-found place-changed
@@ -62,9 +58,15 @@ module _ {t : Settings} {counters slots : List ℕ} {p L hop : ℕ} (fit : HopFi
         go (some s) = refl
         go none = refl
 
+module _ {t : Settings} {counters slots : List ℕ} {p L hop : ℕ} (fit : AddChecked t counters slots p L hop) where
+  pub add-at-0 : L ≡ 0 → add t (lent counters slots) p L hop ≡ left 0 counters (set slots (default-word t) (mark-of hop))
+  unfolding add add-refusal needs-slot from-1 refuse unless-refused added changed with-default
+  add-at-0 z = rw (checks-fit t counters slots p L hop fit, eq-eqb L 0 z)
+
+  module _ (up : L ≡ 0 → ⊥) {place : Place} (searched : place ≡ bucket-place t slots p L) where
     pub add-by-place : add t (lent counters slots) p L hop ≡ place-added t (lent counters slots) p L hop place
     unfolding add add-refusal needs-slot from-1 stored full refuse added changed bucket-place unless-refused is-some with-found place-added
-    add-by-place = rw (searched, route-fits t counters slots p L (fit .route), le-ltb _ _ (fit .small), ne-eqb L 0 up) (go (held t slots p L) (vacant t slots p L))
+    add-by-place = rw (searched, checks-fit t counters slots p L hop fit, ne-eqb L 0 up) (go (held t slots p L) (vacant t slots p L))
       where
         go : (o v : Option ℕ)
             → unless-refused (refuse (not (is-some o) && not (is-some v)) 8 (refuse (not (is-some o) && passes-15 t counters p L) 9 0))

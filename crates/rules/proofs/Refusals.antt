@@ -9,7 +9,7 @@ use lib.Dec.{ltb, eqb}
 use lib.ListN.{length}
 use borrow.Author.Tests.{ltb-false, le-ltb, eqb-true, eq-eqb, ne-eqb, not-false}
 use Rattle.rules.specs.declared.Settings.{Settings}
-use Rattle.rules.specs.Table.{Memory, lent, in-range, counters-size, slots-size, prefix, stored, full, passes-15, runs-short, refuse, from-1, needs-slot, sized, loose, memory-refusal, route-refusal, add-refusal, withdraw-refusal, change-refusal, fourfold, list-refusal, unless-refused}
+use Rattle.rules.specs.Table.{Memory, lent, in-range, counters-size, slots-size, prefix, stored, full, passes-15, runs-short, refuse, from-1, needs-slot, sized, loose, odd-prefix, memory-refusal, add-checks, route-refusal, add-refusal, withdraw-refusal, change-refusal, fourfold, list-refusal, unless-refused}
 use Rattle.rules.specs.Ready.{Ready, Counters, Slots}
 use Rattle.rules.proofs.Members.{both}
 use Rattle.rules.proofs.Prefixes.{loose-false}
@@ -43,6 +43,10 @@ route-passing t m p L = route-then t m p L none-passing
 
 pub hop-passing : (t : Settings) (m : Memory) (p L hop : ℕ) → Passing (λ after. route-refusal t m p L (refuse (ltb 65535 hop) 5 after))
 hop-passing t m p L hop = route-then t m p L (more-passing (ltb 65535 hop) 4 none-passing)
+
+pub add-passing : (t : Settings) (m : Memory) (p L hop : ℕ) → Passing (λ after. memory-refusal t m (add-checks p L hop after))
+unfolding route-refusal
+add-passing t m p L hop = route-then t m p L (more-passing (odd-prefix p L) 10 (more-passing (ltb 65535 hop) 4 none-passing))
 
 pub list-passing : (t : Settings) (m : Memory) (addresses results : ℕ) → Passing (list-refusal t m addresses results)
 unfolding list-refusal memory-refusal
@@ -129,6 +133,28 @@ hop-passed t counters slots p L hop after e =
     let to5 = passed (ltb 65535 hop) 4 after (to4 .1) in
     (record { route = to4 .0; small = ltb-false _ _ (to5 .0) }, to5 .1)
 
+-- what an add's first checks tell: 1 to 5, and 11, not given
+pub record AddChecked (t : Settings) (counters slots : List ℕ) (p L hop : ℕ) : Type 0 where
+  pub fitted : HopFitted t counters slots p L hop
+  pub not-odd : odd-prefix p L ≡ false
+
+pub checks-passed : (t : Settings) (counters slots : List ℕ) (p L hop after : ℕ)
+    → memory-refusal t (lent counters slots) (add-checks p L hop after) ≡ 0 → AddChecked t counters slots p L hop × (after ≡ 0)
+unfolding route-refusal
+checks-passed t counters slots p L hop after e =
+    let five = refuse (ltb 65535 hop) 5 after in
+    let to4 = route-passed t counters slots p L (refuse (odd-prefix p L) 11 five) e in
+    let to11 = passed (odd-prefix p L) 10 five (to4 .1) in
+    let to5 = passed (ltb 65535 hop) 4 after (to11 .1) in
+    (record { fitted = record { route = to4 .0; small = ltb-false _ _ (to5 .0) }; not-odd = to11 .0 }, to5 .1)
+
+-- and the other way
+pub checks-fit : (t : Settings) (counters slots : List ℕ) (p L hop : ℕ) → AddChecked t counters slots p L hop
+    → (after : ℕ) → memory-refusal t (lent counters slots) (add-checks p L hop after) ≡ after
+unfolding route-refusal refuse
+checks-fit t counters slots p L hop f after =
+    route-fits t counters slots p L (f .fitted .route) _ ∙ simp (f .not-odd, le-ltb _ _ (f .fitted .small))
+
 -- a number that checks gave back, of a call that goes no further where it is not 0
 module _ {checks : ℕ → ℕ} (passing : Passing checks) {given : ℕ} (e : given ≡ checks 0) where
   pub stopped : (given ≡ 0 → ⊥) → (after : ℕ) → given ≡ checks after
@@ -140,6 +166,7 @@ module _ {checks : ℕ → ℕ} (passing : Passing checks) {given : ℕ} (e : gi
 -- what an accepted add tells
 pub record AddFitted (t : Settings) (counters slots : List ℕ) (p L hop : ℕ) : Type 0 where
   pub route : RouteFitted t counters slots p L
+  pub not-odd : odd-prefix p L ≡ false
   pub small : hop ≤ 65535
   pub room : needs-slot t slots p L && full t slots p L ≡ false
   pub level : needs-slot t slots p L && passes-15 t counters p L ≡ false
@@ -150,11 +177,11 @@ unfolding add-refusal
 add-passed t counters slots p L hop e =
     let nine = refuse (needs-slot t slots p L && passes-15 t counters p L) 9 0 in
     let eight = refuse (needs-slot t slots p L && full t slots p L) 8 nine in
-    let to4 = route-passed t counters slots p L (refuse (ltb 65535 hop) 5 eight) e in
-    let to5 = passed (ltb 65535 hop) 4 eight (to4 .1) in
-    let to8 = passed (needs-slot t slots p L && full t slots p L) 7 nine (to5 .1) in
+    let first = checks-passed t counters slots p L hop eight e in
+    let to8 = passed (needs-slot t slots p L && full t slots p L) 7 nine (first .1) in
     let to9 = passed (needs-slot t slots p L && passes-15 t counters p L) 8 0 (to8 .1) in
-    record { route = to4 .0; small = ltb-false _ _ (to5 .0); room = to8 .0; level = to9 .0 }
+    let checked = first .0 in
+    record { route = checked .fitted .route; not-odd = checked .not-odd; small = checked .fitted .small; room = to8 .0; level = to9 .0 }
 
 -- an update whose checks gave this number
 module _ (refusal : ℕ) (after before : Memory) {given : ℕ} (e : given ≡ refusal) where
@@ -176,10 +203,11 @@ pub add-order : (t : Settings) (m : Memory) (p L hop : ℕ) → add-refusal t m 
     ≡ memory-refusal t m
     (refuse (ltb 32 L) 3
     (refuse (loose p L) 4
+    (refuse (odd-prefix p L) 11
     (refuse (ltb 65535 hop) 5
     (refuse (from-1 L (not (stored t (m .slots) p L)) && full t (m .slots) p L) 8
-    (refuse (from-1 L (not (stored t (m .slots) p L)) && passes-15 t (m .counters) p L) 9 0)))))
-unfolding add-refusal route-refusal needs-slot
+    (refuse (from-1 L (not (stored t (m .slots) p L)) && passes-15 t (m .counters) p L) 9 0))))))
+unfolding add-refusal needs-slot
 add-order t m p L hop = refl
 
 pub withdraw-order : (t : Settings) (m : Memory) (p L : ℕ) → withdraw-refusal t m p L

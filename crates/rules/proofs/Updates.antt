@@ -4,15 +4,16 @@ use mathlib.Core.Path.{_≡_, refl, sym, ap, _∙_}
 use mathlib.Core.Bool.{Bool, true, false, cond, not}
 use mathlib.Core.List.{List}
 use mathlib.Core.Option.{some, none}
+use native.Mathlib.Omega.{arith}
 use lib.Dec.{ltb, eqb}
 use lib.ListN.{set}
 use lib.Seq.{set-getD}
 use borrow.Author.Tests.{eqb-true, eq-eqb, ne-eqb, le-ltb}
 use Rattle.rules.specs.declared.Settings.{Settings}
-use Rattle.rules.specs.Table.{Memory, lent, left, default-word, prefix-word, mark-word, mark-of, slot-number, mark-at, prefix-at, default-mark, occupied, holds, held, vacant, is-some, stored, refuse, from-1, needs-slot, full, passes-15, runs-short, route-refusal, unless-refused, with-slot, with-default, with-found, counter-places, step-each, add-refusal, withdraw-refusal, change-refusal, added, withdrawn, changed, add, withdraw, change}
+use Rattle.rules.specs.Table.{Memory, lent, left, default-word, prefix-word, mark-word, mark-of, slot-number, mark-at, prefix-at, default-mark, occupied, holds, held, vacant, is-some, stored, refuse, from-1, needs-slot, full, passes-15, runs-short, odd-prefix, memory-refusal, add-checks, route-refusal, unless-refused, with-slot, with-default, with-found, counter-places, step-each, add-refusal, withdraw-refusal, change-refusal, added, withdrawn, changed, add, withdraw, change}
 use Rattle.rules.proofs.Members.{both}
 use Rattle.rules.proofs.Lowest.{some-lowest}
-use Rattle.rules.proofs.Refusals.{RouteFitted, HopFitted, route-fits, route-passing, hop-passing, stopped, refused-by}
+use Rattle.rules.proofs.Refusals.{RouteFitted, route-fits, route-passing, hop-passing, add-passing, stopped, refused-by}
 
 -- ---- Which prefixes need a slot
 
@@ -77,12 +78,12 @@ module _ (t : Settings) (m : Memory) (p L hop : ℕ) where
       go true slots = refl
       go false slots = refl
 
-  -- so an add of a stored prefix is a change, whatever the memory holds
-  pub add-is-change : stored t (m .slots) p L ≡ true → add t m p L hop ≡ change t m p L hop
-  unfolding add change add-refusal change-refusal refuse
-  add-is-change there =
+  -- so an add of a stored prefix that is not odd is a change, whatever the memory holds
+  pub add-is-change : odd-prefix p L ≡ false → stored t (m .slots) p L ≡ true → add t m p L hop ≡ change t m p L hop
+  unfolding add change add-refusal change-refusal route-refusal refuse
+  add-is-change not-odd there =
       let place = stored-in-place t (m .slots) p L there in
-      rw (added-in-place place, place, there)
+      rw (added-in-place place, place, there, not-odd)
 
 module _ (t : Settings) (m : Memory) (p L : ℕ) where
   pub withdrawn-default : L ≡ 0 → withdrawn t m p L ≡ lent (m .counters) (set (m .slots) (default-word t) 0)
@@ -101,11 +102,17 @@ module _ (t : Settings) (counters slots : List ℕ) (p L : ℕ) {given : ℕ} (b
   unfolding withdraw withdraw-refusal
   withdraw-refused e = refused-by (withdraw-refusal t (lent counters slots) p L) _ _ (stopped (route-passing t (lent counters slots) p L) e bad _) bad
 
-  module _ (hop : ℕ) (e : given ≡ route-refusal t (lent counters slots) p L (refuse (ltb 65535 hop) 5 0)) where
-    pub change-refused : change t (lent counters slots) p L hop ≡ left given counters slots
-    unfolding change change-refusal
-    change-refused = refused-by (change-refusal t (lent counters slots) p L hop) _ _ (stopped (hop-passing t (lent counters slots) p L hop) e bad _) bad
+  pub change-refused : (hop : ℕ) → given ≡ route-refusal t (lent counters slots) p L (refuse (ltb 65535 hop) 5 0) → change t (lent counters slots) p L hop ≡ left given counters slots
+  unfolding change change-refusal
+  change-refused hop e = refused-by (change-refusal t (lent counters slots) p L hop) _ _ (stopped (hop-passing t (lent counters slots) p L hop) e bad _) bad
 
-    pub add-refused : add t (lent counters slots) p L hop ≡ left given counters slots
-    unfolding add add-refusal
-    add-refused = refused-by (add-refusal t (lent counters slots) p L hop) _ _ (stopped (hop-passing t (lent counters slots) p L hop) e bad _) bad
+  pub add-refused : (hop : ℕ) → given ≡ memory-refusal t (lent counters slots) (add-checks p L hop 0) → add t (lent counters slots) p L hop ≡ left given counters slots
+  unfolding add add-refusal
+  add-refused hop e = refused-by (add-refusal t (lent counters slots) p L hop) _ _ (stopped (add-passing t (lent counters slots) p L hop) e bad _) bad
+
+-- a route that has passed 1 to 4 and is odd gets 11, whatever its hop
+pub add-odd : {t : Settings} {counters slots : List ℕ} {p L : ℕ} → RouteFitted t counters slots p L → odd-prefix p L ≡ true
+    → (hop : ℕ) → add t (lent counters slots) p L hop ≡ left 11 counters slots
+unfolding route-refusal refuse
+add-odd {t} {counters} {slots} {p} {L} fit odd hop =
+    add-refused t counters slots p L (λ z. omega arith) hop (sym (route-fits t counters slots p L fit _ ∙ rw odd))

@@ -8,7 +8,7 @@ use lib.ListN.{getD, length, replicate, set}
 use Rattle.rules.specs.declared.Settings.{Settings}
 use Rattle.rules.specs.declared.Answer.{Answer}
 use Rattle.rules.specs.Tools.{within, all, any, count, those, lowest}
-use Rattle.rules.specs.Table.{list-in-range, in-range, wrap, prefix, steps, filter-bits, positions, bucket, Memory, filters-size, counters-size, filter-start, counter-place, counter-places, slots-size, slot-number, prefix-word, mark-word, default-word, occupied, mark-of, hop-of, mark-at, prefix-at, default-mark, holds, free, held, vacant, is-some, stored, refuse, sized, loose, full, hits, passes-15, runs-short, from-1, needs-slot, memory-refusal, route-refusal, add-refusal, withdraw-refusal, change-refusal, Outcome, unless-refused, zeroed, step-each, with-slot, with-default, with-found, added, withdrawn, changed, clear, add, withdraw, change, claims, bits-where, vector-of, match-vector, down-from, bit-set, set-bits, search, route-answer, default-answer, place-answer, refused, answer-of, lookup, one-if, answer-words, list-words, Listed, listed, fourfold, list-refusal, lookup-list, whole-words, words, answer-number, vector-number, c-lookup, c-match-vector, bytes-of, c-list-refusal, c-lookup-list}
+use Rattle.rules.specs.Table.{list-in-range, in-range, wrap, prefix, steps, filter-bits, positions, bucket, Memory, filters-size, counters-size, filter-start, counter-place, counter-places, slots-size, slot-number, prefix-word, mark-word, default-word, occupied, mark-of, hop-of, mark-at, prefix-at, default-mark, holds, free, held, vacant, is-some, stored, refuse, sized, loose, lies-in, odd-prefix, full, hits, passes-15, runs-short, from-1, needs-slot, memory-refusal, route-refusal, add-refusal, withdraw-refusal, change-refusal, Outcome, unless-refused, zeroed, step-each, with-slot, with-default, with-found, added, withdrawn, changed, clear, add, withdraw, change, claims, bits-where, vector-of, match-vector, down-from, bit-set, set-bits, search, route-answer, default-answer, place-answer, refused, answer-of, lookup, one-if, answer-words, list-words, Listed, listed, fourfold, list-refusal, lookup-list, whole-words, words, answer-number, vector-number, c-lookup, c-match-vector, bytes-of, c-list-refusal, c-lookup-list}
 
 -- an address or a prefix by its four octets
 abbrev pub ip : (a b c d : ℕ) → ℕ
@@ -135,6 +135,17 @@ branch-gone = withdraw X five-lengths (ip 10 1 2 0) 24 .memory
 -- what a clear gives back with filters of these sizes, over so many counters
 abbrev clear-number : (d : List ℕ) (counters : ℕ) → ℕ
 clear-number d counters = clear (filtered d) (record { counters = sevens counters; slots = sevens 257 }) .refusal
+
+-- the number that a table of settings T that holds nothing gives a route of hop 7
+abbrev number-of : (p L : ℕ) → ℕ
+number-of p L = add T (empty T) p L 7 .refusal
+
+-- memory from before odd prefixes were refused: 127/8 is stored with hop 7, and 10/8 besides
+abbrev old : Memory
+old = record {
+  counters = step-each (λ n. n + 1) (ten .counters) (counter-places T (ip 127 0 0 0) 8);
+  slots = with-slot (ten .slots) (slot-number T (ip 127 0 0 0) 8 1) (ip 127 0 0 0) (mark-of 7);
+}
 
 -- the counters at these places
 abbrev bytes-at : Memory → (places : List ℕ) → List ℕ
@@ -381,6 +392,32 @@ unequal =
     ∷ case (c-lookup (filtered (replicate 31 4)) (sevens 496) (sevens 1028) 0 ∷ c-match-vector (filtered (replicate 33 4)) (sevens 528) (sevens 1028) 0 ∷ []) (281474976710656 ∷ 281474976710656 ∷ [])
     ∷ []
 
+-- odd prefixes
+odd : List Case
+odd =
+    -- W14: 127/8 and 224/4 get 11, and so does all that lies in them, to their last addresses
+    case (number-of (ip 127 0 0 0) 8 ∷ number-of (ip 127 0 0 0) 9 ∷ number-of (ip 127 128 0 0) 9 ∷ []) (11 ∷ 11 ∷ 11 ∷ [])
+    ∷ case (number-of (ip 127 0 0 0) 32 ∷ number-of (ip 127 0 0 1) 32 ∷ number-of (ip 127 255 255 255) 32 ∷ []) (11 ∷ 11 ∷ 11 ∷ [])
+    ∷ case (number-of (ip 224 0 0 0) 4 ∷ number-of (ip 224 0 0 0) 5 ∷ number-of (ip 232 0 0 0) 5 ∷ []) (11 ∷ 11 ∷ 11 ∷ [])
+    ∷ case (number-of (ip 239 0 0 0) 8 ∷ number-of (ip 224 0 0 0) 32 ∷ number-of (ip 239 255 255 255) 32 ∷ []) (11 ∷ 11 ∷ 11 ∷ [])
+    -- what only contains them passes
+    ∷ case (number-of (ip 126 0 0 0) 7 ∷ number-of (ip 64 0 0 0) 2 ∷ number-of 0 1 ∷ number-of 0 0 ∷ []) (0 ∷ 0 ∷ 0 ∷ 0 ∷ [])
+    ∷ case (number-of (ip 224 0 0 0) 3 ∷ number-of (ip 192 0 0 0) 2 ∷ number-of (ip 128 0 0 0) 1 ∷ []) (0 ∷ 0 ∷ 0 ∷ [])
+    -- and so do their neighbours
+    ∷ case (number-of (ip 126 0 0 0) 8 ∷ number-of (ip 126 255 255 255) 32 ∷ number-of (ip 128 0 0 0) 8 ∷ number-of (ip 128 0 0 0) 32 ∷ []) (0 ∷ 0 ∷ 0 ∷ 0 ∷ [])
+    ∷ case (number-of (ip 208 0 0 0) 4 ∷ number-of (ip 223 255 255 255) 32 ∷ number-of (ip 240 0 0 0) 4 ∷ number-of (ip 240 0 0 0) 32 ∷ number-of (ip 255 255 255 255) 32 ∷ []) (0 ∷ 0 ∷ 0 ∷ 0 ∷ 0 ∷ [])
+    -- W15: 2, 3 and 4 before 11, and 11 before 5, 8 and 9
+    ∷ case (add T (record { counters = sevens 511; slots = sevens 257 }) (ip 127 0 0 0) 8 7 .refusal ∷ []) (2 ∷ [])
+    ∷ case (number-of (ip 127 0 0 0) 33 ∷ number-of (ip 127 0 0 1) 8 ∷ number-of (ip 224 0 0 1) 4 ∷ []) (3 ∷ 4 ∷ 4 ∷ [])
+    ∷ case (add T (empty T) (ip 127 0 0 0) 8 65536 .refusal ∷ add T (empty T) (ip 224 0 0 0) 4 65536 .refusal ∷ []) (11 ∷ 11 ∷ [])
+    ∷ case (add T ten-eight (ip 127 0 0 0) 8 6 .refusal ∷ add (Z 5 4) (hosts (Z 5 4) 3) (ip 127 0 0 1) 32 1 .refusal ∷ []) (11 ∷ 11 ∷ [])
+    -- W16: where 127/8 is stored from before, an add gets 11 and leaves all as it was; it is found, changed and withdrawn
+    ∷ case (written (add T old (ip 127 0 0 0) 8 8)) (11 ∷ old .counters ++ old .slots)
+    ∷ case (figures (lookup T old (ip 127 0 0 1))) (finds 7 8 1)
+    ∷ case (written (change T old (ip 127 0 0 0) 8 8)) (only-word old 59 9)
+    ∷ case (written (withdraw T old (ip 127 0 0 0) 8)) (0 ∷ ten .counters ++ ten .slots)
+    ∷ []
+
 -- two lists of numbers are the same
 unfoldable pub same-words : List ℕ → List ℕ → Bool
 same-words [] [] = true
@@ -395,9 +432,9 @@ come-out (c ∷ cs) = same-words (c .gives) (c .says) && come-out cs
 
 -- to unfold this is to unfold all that the calls compute with
 unfoldable pub computing : ℕ
-unfolding within all any count those lowest list-in-range in-range wrap prefix steps filter-bits positions bucket filters-size counters-size filter-start counter-place counter-places slots-size slot-number prefix-word mark-word default-word occupied mark-of hop-of mark-at prefix-at default-mark holds free held vacant is-some stored refuse sized loose full hits passes-15 runs-short from-1 needs-slot memory-refusal route-refusal add-refusal withdraw-refusal change-refusal unless-refused zeroed step-each with-slot with-default with-found added withdrawn changed clear add withdraw change claims bits-where vector-of match-vector down-from bit-set set-bits search route-answer default-answer place-answer refused answer-of lookup one-if answer-words list-words listed fourfold list-refusal lookup-list whole-words words answer-number vector-number c-lookup c-match-vector bytes-of c-list-refusal c-lookup-list
+unfolding within all any count those lowest list-in-range in-range wrap prefix steps filter-bits positions bucket filters-size counters-size filter-start counter-place counter-places slots-size slot-number prefix-word mark-word default-word occupied mark-of hop-of mark-at prefix-at default-mark holds free held vacant is-some stored refuse sized loose lies-in odd-prefix full hits passes-15 runs-short from-1 needs-slot memory-refusal route-refusal add-refusal withdraw-refusal change-refusal unless-refused zeroed step-each with-slot with-default with-found added withdrawn changed clear add withdraw change claims bits-where vector-of match-vector down-from bit-set set-bits search route-answer default-answer place-answer refused answer-of lookup one-if answer-words list-words listed fourfold list-refusal lookup-list whole-words words answer-number vector-number c-lookup c-match-vector bytes-of c-list-refusal c-lookup-list
 computing = 0
 
-all-come-out : come-out (worked ++ refusals ++ further ++ lists ++ replaced ++ downwards ++ unequal) ≡ true
-unfolding worked refusals further lists replaced downwards unequal same-words come-out computing
+all-come-out : come-out (worked ++ refusals ++ further ++ lists ++ replaced ++ downwards ++ unequal ++ odd) ≡ true
+unfolding worked refusals further lists replaced downwards unequal odd same-words come-out computing
 all-come-out = refl

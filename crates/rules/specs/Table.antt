@@ -1,11 +1,11 @@
 -- The rules of the table, under the headings of docs/TABLE.md. Every definition computes, on any
 -- numbers and any memory, damaged memory too.
 use Prim.Native.Nat.{ℕ, zero, suc, _+_, _-_, _*_, _/_, _%_, _^_}
-use mathlib.Core.Bool.{Bool, true, false, cond, not, _&&_}
+use mathlib.Core.Bool.{Bool, true, false, cond, not, _&&_, _||_}
 use mathlib.Core.List.{List, [], _∷_, _++_, map}
 use mathlib.Core.Option.{Option, some, none}
 use lib.ListN.{length, getD, set, take, replicate}
-use lib.Dec.{ltb, eqb}
+use lib.Dec.{ltb, leb, eqb}
 use Rattle.rules.specs.Tools.{within, all, any, count, those, lowest}
 use Rattle.rules.specs.declared.Settings.{Settings}
 use Rattle.rules.specs.declared.Place.{Place}
@@ -166,6 +166,14 @@ sized t m = eqb (length (m .counters)) (counters-size t) && eqb (length (m .slot
 unfoldable pub loose : (p L : ℕ) → Bool
 loose p L = not (eqb (prefix p L) p)
 
+-- p lies wholly in the prefix q of length M: it is no shorter, and has its first bits
+unfoldable pub lies-in : (q M p L : ℕ) → Bool
+lies-in q M p L = leb M L && eqb (prefix p M) q
+
+-- an odd prefix lies wholly in 127.0.0.0/8, a gateway itself, or in 224.0.0.0/4, many receivers at once
+unfoldable pub odd-prefix : (p L : ℕ) → Bool
+odd-prefix p L = lies-in (127 * 2 ^ 24) 8 p L || lies-in (224 * 2 ^ 24) 4 p L
+
 -- a condition that only length 1 and up can meet: the default has no bucket and no filter
 unfoldable pub from-1 : (L : ℕ) → Bool → Bool
 from-1 L bad = cond (eqb L 0) false bad
@@ -194,15 +202,23 @@ runs-short t counters p L = any (λ i. ltb (getD counters i 0) (hits t p L i)) (
 unfoldable pub memory-refusal : Settings → Memory → (after : ℕ) → ℕ
 memory-refusal t m after = refuse (not (in-range t)) 1 (refuse (not (sized t m)) 2 after)
 
+-- what a route is checked for, memory apart: 3 and 4
+abbrev pub route-checks : (p L after : ℕ) → ℕ
+route-checks p L after = refuse (ltb 32 L) 3 (refuse (loose p L) 4 after)
+
+-- what an add is checked for, memory apart: 3 and 4, 11, and 5
+abbrev pub add-checks : (p L hop after : ℕ) → ℕ
+add-checks p L hop after = route-checks p L (refuse (odd-prefix p L) 11 (refuse (ltb 65535 hop) 5 after))
+
 -- 3 and 4, which every update checks next
 unfoldable pub route-refusal : Settings → Memory → (p L after : ℕ) → ℕ
-route-refusal t m p L after = memory-refusal t m (refuse (ltb 32 L) 3 (refuse (loose p L) 4 after))
+route-refusal t m p L after = memory-refusal t m (route-checks p L after)
 
 -- what add gives back; 0 is success
 unfoldable pub add-refusal : Settings → Memory → (p L hop : ℕ) → ℕ
 add-refusal t m p L hop =
-    route-refusal t m p L
-    (refuse (ltb 65535 hop) 5
+    memory-refusal t m
+    (add-checks p L hop
     (refuse (needs-slot t (m .slots) p L && full t (m .slots) p L) 8
     (refuse (needs-slot t (m .slots) p L && passes-15 t (m .counters) p L) 9 0)))
 

@@ -91,6 +91,9 @@ numbers-agree :
     ∷ right-number T our-calls pair (Withdraw (ip 10 0 0 0) 8)
     ∷ right-number Z our-calls three (Add 4 32 1)
     ∷ right-number Z our-calls three (Add 3 32 6)
+    ∷ right-number T our-calls [] (Add (ip 127 0 0 0) 8 1)
+    ∷ right-number T our-calls [] (Add (ip 224 0 0 0) 3 1)
+    ∷ right-number T our-calls [] (Withdraw (ip 127 0 0 0) 8)
     ∷ right-number T our-calls (again ++ Withdraw (ip 10 0 0 0) 8 ∷ []) (Withdraw (ip 10 0 0 0) 8)
     ∷ []
     ) ≡ true

@@ -12,7 +12,7 @@ use lib.ListN.{length, take, set}
 use borrow.Author.Tests.{eqb-true, eq-eqb, ltb-true}
 use Rattle.rules.specs.declared.Settings.{Settings}
 use Rattle.rules.specs.Tools.{any, those}
-use Rattle.rules.specs.Table.{Memory, Outcome, lent, left, default-word, default-mark, mark-of, slot-number, counter-places, vacant, stored, from-1, full, with-slot, with-found, unless-refused, step-each, added, clear, add, withdraw, change, hits, vector-of, down-from, set-bits, search as searched, default-answer, place-answer, lookup, one-if}
+use Rattle.rules.specs.Table.{Memory, Outcome, lent, left, default-word, default-mark, mark-of, slot-number, counter-places, vacant, stored, odd-prefix, from-1, full, with-slot, with-found, unless-refused, step-each, added, clear, add, withdraw, change, hits, vector-of, down-from, set-bits, search as searched, default-answer, place-answer, lookup, one-if}
 use Rattle.rules.proofs.Members.{both}
 use Rattle.rules.specs.Calls.{Call, Clear, Add, Withdraw, Change, word-sized, all-word-sized, act, run}
 use Rattle.promises.specs.History.{Route}
@@ -241,6 +241,26 @@ pub first-free-taken :
     with-slots u (cond (stored t (m .slots) p L) (with-found t (m .slots) p L (vacant t (m .slots) p L) p (mark-of hop)) (u .memory .slots)))) lookup → ⊥
 unfolding shown
 first-free-taken = by-number T _ lookup (again ++ Withdraw (ip 10 0 0 0) 8 ∷ []) (Withdraw (ip 10 0 0 0) 8) refl
+
+-- ---- Odd prefixes
+
+-- Lets them in: 127/8 is accepted.
+pub lets-odd-in :
+    Honest (with-add (λ t m p L hop. let u = add t m p L hop in cond (eqb (u .refusal) 11) (record { refusal = 0; memory = added t m p L hop }) u)) lookup → ⊥
+unfolding shown
+lets-odd-in = by-number T _ lookup [] (Add (ip 127 0 0 0) 8 1) refl
+
+-- Keeps out what only contains one: 224/3 gets 11.
+pub refuses-around-odd :
+    Honest (with-add (λ t m p L hop. cond (odd-prefix p 32) (left 11 (m .counters) (m .slots)) (add t m p L hop))) lookup → ⊥
+unfolding shown
+refuses-around-odd = by-number T _ lookup [] (Add (ip 224 0 0 0) 3 1) refl
+
+-- Asks a withdrawal for them too: 127/8, which is not stored, gets 11 where 7 is due.
+pub odd-not-withdrawn :
+    Honest (with-withdraw (λ t m p L. cond (odd-prefix p L) (left 11 (m .counters) (m .slots)) (withdraw t m p L))) lookup → ⊥
+unfolding shown
+odd-not-withdrawn = by-number T _ lookup [] (Withdraw (ip 127 0 0 0) 8) refl
 
 -- ---- Changes, clears and lookups
 

@@ -5,6 +5,7 @@ ghost use Rattle.rules.specs.Table.{lent, left, clear, add, withdraw, change, m
 use lookup_answers::answer_refused;
 use lookups::answer_in_words;
 use lookups::list_in_words;
+use refusals::refuse_add;
 use refusals::refuse_hop;
 use refusals::refuse_list;
 use refusals::refuse_route;
@@ -44,7 +45,7 @@ pub fn add(
 ) -> u32
     ensures { λ r. ⌜ add settings (lent (now (counters .entry)) (now (slots .entry))) p length hop ≡ left r (now (counters .exit)) (now (slots .exit)) ⌝ }
 {
-    let refusal = refuse_hop(settings, counters, slots, p, length, hop);
+    let refusal = refuse_add(settings, counters, slots, p, length, hop);
     if refusal != 0 {
         return refusal;
     }

@@ -31,6 +31,6 @@ sample = refl
 
 -- the default, a full bucket and its place again, each refusal by its number, a line that cannot be read, and a stored
 -- prefix added again, in its full bucket, with another hop
-pub another : written-to "add 0.0.0.0/0 3\nfind 12.0.0.1\nmove 0.0.0.0/0 4\nadd 10.0.0.0/8 7\nadd 8.0.0.0/8 5\nadd 9.0.0.0/8 6\nfind 9.1.1.1\nadd 10.0.0.0/33 1\nadd 10.0.0.1/8 1\nadd 11.0.0.0/8 65536\nadd 10.0.0.0/8 1\nfind 10.2.2.3\nfind 10.0.0.256\ndrop 8.0.0.0/8\nadd 9.0.0.0/8 6\nfind 9.1.1.1\ndrop 0.0.0.0/0\nfind 8.1.2.3\n" "ok\n3 0 0\nok\nok\nok\nrefused 8\n4 0 1\nrefused 3\nrefused 4\nrefused 5\nok\n1 8 1\nunreadable\nok\nok\n6 8 1\nok\nnone 1\n" ≡ true
+pub another : written-to "add 0.0.0.0/0 3\nfind 12.0.0.1\nmove 0.0.0.0/0 4\nadd 10.0.0.0/8 7\nadd 8.0.0.0/8 5\nadd 9.0.0.0/8 6\nfind 9.1.1.1\nadd 10.0.0.0/33 1\nadd 10.0.0.1/8 1\nadd 127.0.0.0/8 65536\nadd 11.0.0.0/8 65536\nadd 10.0.0.0/8 1\nfind 10.2.2.3\nfind 10.0.0.256\ndrop 8.0.0.0/8\nadd 9.0.0.0/8 6\nfind 9.1.1.1\ndrop 0.0.0.0/0\nfind 8.1.2.3\n" "ok\n3 0 0\nok\nok\nok\nrefused 8\n4 0 1\nrefused 3\nrefused 4\nrefused 11\nrefused 5\nok\n1 8 1\nunreadable\nok\nok\n6 8 1\nok\nnone 1\n" ≡ true
 unfolding paper-computing
 another = refl

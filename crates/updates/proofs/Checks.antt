@@ -1,8 +1,11 @@
--- What the updates count on is what the rules' checks 1 to 4, and 5 with a hop, tell where they pass.
+-- What the updates count on is what the rules' checks 1 to 4, with a hop 5, and for an add 11, tell where they pass.
 use Prim.Native.Nat.{ℕ, _≤_}
+use mathlib.Core.Path.{_≡_}
+use mathlib.Core.Bool.{false}
 use mathlib.Core.List.{List}
 use Rattle.rules.specs.declared.Settings.{Settings}
-use Rattle.rules.proofs.Refusals.{RouteFitted, HopFitted}
+use Rattle.rules.specs.Table.{odd-prefix}
+use Rattle.rules.proofs.Refusals.{RouteFitted, HopFitted, AddChecked}
 use Rattle.updates.specs.Checked.{Checked}
 
 module _ {t : Settings} {counters slots : List ℕ} {p L : ℕ} where
@@ -22,3 +25,6 @@ module _ {t : Settings} {counters slots : List ℕ} {p L : ℕ} where
 
   pub hop-fitted : {hop : ℕ} → Checked t counters slots p L → hop ≤ 65535 → HopFitted t counters slots p L hop
   hop-fitted c small = record { route = route-fitted c; small = small }
+
+  pub add-fitted : {hop : ℕ} → Checked t counters slots p L → hop ≤ 65535 → odd-prefix p L ≡ false → AddChecked t counters slots p L hop
+  add-fitted c small not-odd = record { fitted = hop-fitted c small; not-odd = not-odd }

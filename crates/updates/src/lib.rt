@@ -1,8 +1,9 @@
-// An add, a withdrawal and a change whose route has passed 1 to 5: what is left to ask is the slots and the counters.
+// An add, a withdrawal and a change whose route has passed its first checks: what is left to ask is the slots and the counters.
 ghost use mathlib.Core.Path.{_≡_};
+ghost use mathlib.Core.Bool.{false};
 ghost use mathlib.Core.List.{[]};
 ghost use Prim.Native.Nat.{_≤_};
-ghost use Rattle.rules.specs.Table.{lent, left, add, withdraw, change};
+ghost use Rattle.rules.specs.Table.{lent, left, odd-prefix, add, withdraw, change};
 ghost use Rattle.rules.specs.Ready.{Slots};
 ghost use Rattle.rules.specs.Meaning.{default-changed};
 ghost use Rattle.updates.specs.Checked.{Checked};
@@ -15,6 +16,7 @@ use filters::Step;
 use filters::places_of;
 use filters::refuse_step;
 use filters::step_each;
+use prefixes::is_odd;
 use rules::Place;
 use rules::Settings;
 use rules::Vacancy;
@@ -42,6 +44,7 @@ pub fn add_checked(
 ) -> u32
     requires { ⌜ Checked settings (now counters) (now slots) p length ⌝ }
     requires { ⌜ hop ≤ 65535 ⌝ }
+    requires { ⌜ odd-prefix p length ≡ false ⌝ }
     ensures { λ r. ⌜ add settings (lent (now (counters .entry)) (now (slots .entry))) p length hop ≡ left r (now (counters .exit)) (now (slots .exit)) ⌝ }
 {
     if length == 0 {
@@ -74,7 +77,26 @@ pub fn add_checked(
     }
 }
 
-// Withdraws a route that has.
+// Adds a route that was announced, in a message or a dump: it has passed 1 to 5, and 11 is asked here.
+pub fn add_announced(
+    settings: Settings,
+    counters: &mut [u8],
+    slots: &mut [u32],
+    p: u32,
+    length: u32,
+    hop: u32,
+) -> u32
+    requires { ⌜ Checked settings (now counters) (now slots) p length ⌝ }
+    requires { ⌜ hop ≤ 65535 ⌝ }
+    ensures { λ r. ⌜ add settings (lent (now (counters .entry)) (now (slots .entry))) p length hop ≡ left r (now (counters .exit)) (now (slots .exit)) ⌝ }
+{
+    if is_odd(p, length) {
+        return 11;
+    }
+    add_checked(settings, counters, slots, p, length, hop)
+}
+
+// Withdraws a route that has passed the checks.
 pub fn withdraw_checked(
     settings: Settings,
     counters: &mut [u8],

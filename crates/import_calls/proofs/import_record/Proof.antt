@@ -28,15 +28,15 @@ route : (c : tie.After-known-told) → let a = c .before .before .before .before
     record-read (take (a .size) (now (a .room))) (now (a .hops)) ≡ Route (q .0) (q .1 .0) (q .1 .1 .0)
 route c = read (c .before .before .before) (c .before .prefix .given .1)
 
-add-checked-requires : tie.Need-add-checked-requires
-add-checked-requires c κs =
+add-announced-requires : tie.Need-add-announced-requires
+add-announced-requires c κs =
     let k = c .before .before in
     let pre = k .before .before .before .before .before .before .before .before .before .pre in
     let told = record-told _ _ (route k) in
     (checked told (pre .0) (pre .1 .0) (pre .1 .1 .0), told .low)
 
 returns : tie.Need-returns
-returns c = route-done _ _ _ _ _ _ (route (c .before .before .before .before .before .before .before .before)) (c .before .before .before .before .before .add-checked .ensures) (c .count-route .ensures)
+returns c = route-done _ _ _ _ _ _ (route (c .before .before .before .before .before .before .before .before)) (c .before .before .before .before .before .add-announced .ensures) (c .count-route .ensures)
 
 returns-2 : tie.Need-returns-2
 returns-2 c = hopless-done _ _ _ _ _ _ (read (c .before .before .before) (c .before .enum-told .given .1)) (c .count-hopless .ensures)
@@ -51,7 +51,7 @@ import-record-spec =
     slice-aggregate-read-record
     (λ c κs. search needs)
     (λ c. search needs)
-    add-checked-requires
+    add-announced-requires
     (λ c κs. search needs)
     (λ c. search needs)
     (λ c κs. search needs)

@@ -6,9 +6,9 @@ use Rattle.message_calls.specs.Walks.{task-call, hop-fits}
 use Rattle.message_calls.proofs.apply_task.Statement.{statement}
 use Rattle.message_calls.proofs.apply_task.Tie as tie
 
-add-checked-requires : tie.Need-add-checked-requires
+add-announced-requires : tie.Need-add-announced-requires
 unfolding hop-fits
-add-checked-requires c κs =
+add-announced-requires c κs =
     let pre = c .before .before .before .before .before .before .before .pre in
     (pre .0, leb-true _ _ (rw (c .before .before .before .task .given .1) at (pre .1)))
 
@@ -18,7 +18,7 @@ returns c = rw (c .before .before .before .before .before .before .before .enum-
 
 returns-2 : tie.Need-returns-2
 unfolding act task-call
-returns-2 c = rw (c .before .before .before .before .before .before .before .before .task .given .1) (c .before .before .before .before .add-checked .ensures)
+returns-2 c = rw (c .before .before .before .before .before .before .before .before .task .given .1) (c .before .before .before .before .add-announced .ensures)
 
 pub apply-task-spec : {M : Type 1} → statement M
 apply-task-spec =
@@ -27,7 +27,7 @@ apply-task-spec =
     (λ c. search needs)
     (λ c κs. search needs)
     (λ c. search needs)
-    add-checked-requires
+    add-announced-requires
     (λ c. search needs)
     (λ c. search needs)
     returns

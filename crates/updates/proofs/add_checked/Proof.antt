@@ -10,21 +10,25 @@ use Rattle.rules.specs.Table.{left, mark-of}
 use Rattle.rules.specs.Ready.{Ready}
 use Rattle.rules.specs.Meaning.{bucket-place, place-added}
 use Rattle.rules.proofs.Meaning.{add-at-0, add-by-place}
-use Rattle.rules.proofs.Refusals.{HopFitted, fitted-ready, fitted-counters, fitted-slots, refused-by, accepted-by}
+use Rattle.rules.proofs.Refusals.{RouteFitted, AddChecked, fitted-ready, fitted-counters, fitted-slots, refused-by, accepted-by}
 use Rattle.buckets.proofs.Ends.{held-lent, free-lent}
 use Rattle.filters.specs.declared.Step.the-variants.{Raise}
 use Rattle.filters.proofs.Visits.{inside-of, can-step, cannot-raise, raised}
-use Rattle.updates.proofs.Checks.{hop-fitted}
+use Rattle.updates.proofs.Checks.{add-fitted}
 use Rattle.updates.proofs.add_checked.Statement.{statement}
 use Rattle.updates.proofs.add_checked.Tie as tie
 
 -- what the checks have told
 fit : (c : tie.Else1) → let a = c .before .before .before .args in
-    HopFitted (a .settings) (now (a .counters)) (now (a .slots)) (a .p) (a .length) (a .hop)
-fit c = let pre = c .before .before .before .pre in hop-fitted (pre .0) (pre .1)
+    AddChecked (a .settings) (now (a .counters)) (now (a .slots)) (a .p) (a .length) (a .hop)
+fit c = let pre = c .before .before .before .pre in add-fitted (pre .0) (pre .1 .0) (pre .1 .1)
+
+route-fit : (c : tie.Else1) → let a = c .before .before .before .args in
+    RouteFitted (a .settings) (now (a .counters)) (now (a .slots)) (a .p) (a .length)
+route-fit c = fit c .fitted .route
 
 ready : (c : tie.Else1) → let a = c .before .before .before .args in Ready (a .settings) (a .length)
-ready c = fitted-ready (fit c .route) (c .if1 .left)
+ready c = fitted-ready (route-fit c) (c .if1 .left)
 
 returns : tie.Need-returns
 unfolding mark-of
@@ -32,13 +36,13 @@ returns c =
     let d = c .before .before in
     let at-0 = d .before .before in
     let pre = at-0 .before .before .before .pre in
-    add-at-0 (hop-fitted (pre .0) (pre .1)) (at-0 .if1 .taken) ∙ ap (left 0 _) (sym (d .put-default .ensures))
+    add-at-0 (add-fitted (pre .0) (pre .1 .0) (pre .1 .1)) (at-0 .if1 .taken) ∙ ap (left 0 _) (sym (d .put-default .ensures))
 
 put-slot-requires : tie.Need-put-slot-requires
 put-slot-requires c κs =
     let at = c .before .before in
     let up = at .before .before .before .before in
-    held-lent _ _ (fitted-slots (fit up .route)) _ _ (ready up) (sym (at .before .before .search-bucket .ensures) ∙ at .place .given .1)
+    held-lent _ _ (fitted-slots (route-fit up)) _ _ (ready up) (sym (at .before .before .search-bucket .ensures) ∙ at .place .given .1)
 
 returns-2 : tie.Need-returns-2
 unfolding place-added
@@ -58,7 +62,7 @@ free-there c =
 refuse-step-requires : tie.Need-refuse-step-requires
 refuse-step-requires c κs =
     let up = c .before .before .before .before .before .before .before .before .before .before .before in
-    inside-of (c .before .before .places-of .ensures) (ready up) (fitted-counters (fit up .route))
+    inside-of (c .before .before .places-of .ensures) (ready up) (fitted-counters (route-fit up))
 
 returns-3 : tie.Need-returns-3
 unfolding place-added
@@ -73,14 +77,14 @@ put-slot-requires-2 : tie.Need-put-slot-requires-2
 put-slot-requires-2 c κs =
     let free = c .before .before .before .before .before .before .before in
     let up = free .before .before .before .before .before .before .before in
-    free-lent _ _ (fitted-slots (fit up .route)) _ _ (ready up) (sym (free-there free))
+    free-lent _ _ (fitted-slots (route-fit up)) _ _ (ready up) (sym (free-there free))
 
 step-each-requires : tie.Need-step-each-requires
 step-each-requires c κs =
     let level = c .before .before .before .before .before .before in
     let places = level .before .before .before .before in
     let up = places .before .before .before .before .before .before .before .before .before in
-    (inside-of (places .places-of .ensures) (ready up) (fitted-counters (fit up .route)), can-step Raise _ (level .before .refuse-step .ensures) (level .if2 .left))
+    (inside-of (places .places-of .ensures) (ready up) (fitted-counters (route-fit up)), can-step Raise _ (level .before .refuse-step .ensures) (level .if2 .left))
 
 returns-4 : tie.Need-returns-4
 unfolding place-added mark-of
