@@ -57,13 +57,23 @@ static int has_route(uint32_t many, uint32_t prefix, uint32_t length)
     return 0;
 }
 
+/* A prefix that every version takes: an add refuses what lies in 127.0.0.0/8 or 224.0.0.0/4 from 0.8 on. */
+static uint32_t random_prefix(uint32_t length)
+{
+    uint32_t prefix;
+    do
+        prefix = random_word() & 0xffffffffu << (32 - length);
+    while (prefix >> 24 == 127 || prefix >> 28 == 14);
+    return prefix;
+}
+
 /* The default first, then different routes. */
 static void make_routes(uint32_t many)
 {
     routes[0] = (struct route){0, 0, 0};
     for (uint32_t i = 1; i < many;) {
         uint32_t length = random_length();
-        uint32_t prefix = random_word() & 0xffffffffu << (32 - length);
+        uint32_t prefix = random_prefix(length);
         if (!has_route(i, prefix, length))
             routes[i++] = (struct route){prefix, length, random_below(65536)};
     }
@@ -260,7 +270,7 @@ void choose_told(const struct table *t, const struct calls *one, const struct me
                  const struct calls *other, const struct memory *second)
 {
     for (size_t i = 0; i < TOLD;) {
-        told[i] = random_word() & 0xffffff00;
+        told[i] = random_prefix(24);
         if (!has_route(t->routes, told[i], 24) && UPDATE(add, told[i], 24, 0) == GATEWAY_OK)
             i++;
     }
