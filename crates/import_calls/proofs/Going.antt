@@ -12,7 +12,8 @@ use Rattle.stream_format.specs.declared.Event.the-variants.{Nothing, Record, St
 use Rattle.stream_format.specs.Streams.{Stream, stream, unless-ended, completed, chunk-taken}
 use Rattle.stream_records.specs.declared.Next.{Next}
 use Rattle.stream_records.specs.Runs.{Sound, SoundEnded, completes, GoesFrom}
-use Rattle.stream_records.proofs.Taken.{goes-taken, goes-no-further, ended-taken}
+use Rattle.stream_format.proofs.Cuts.{ended-stays}
+use Rattle.stream_records.proofs.Taken.{goes-taken, goes-no-further}
 use Rattle.import_format.specs.declared.ImportCounts.{ImportCounts}
 use Rattle.import_format.specs.Routes.{dump-kind}
 use Rattle.import_format.specs.Importing.{Filling, record-imported, importing}
@@ -84,4 +85,4 @@ module _ {t : Settings} {hops chunk : List ℕ} {stage : Stage} {room : List ℕ
       pub ends : {counters' slots' : List ℕ} → record-imported t hops (filling counts counters slots) (take size room') ≡ step-done counts step.Fault counters' slots'
           → whole ≡ stream (Ended 12) room' (filling counts counters' slots')
       unfolding completed unless-ended importing step-done
-      ends {counters'} {slots'} done = sym (rw (complete, done) at turn) ∙ ended-taken dump-kind (importing t hops) (filling counts counters' slots') 12 room' (drop (next .at) chunk)
+      ends {counters'} {slots'} done = sym (rw (complete, done) at turn) ∙ ended-stays dump-kind (importing t hops) (stream (Ended 12) room' (filling counts counters' slots')) refl (drop (next .at) chunk)

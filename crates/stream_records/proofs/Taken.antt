@@ -8,7 +8,6 @@ use lib.ListN.{drop}
 use Rattle.rules.specs.Tools.{fed}
 use Rattle.stream_format.specs.declared.Kind.{Kind}
 use Rattle.stream_format.specs.declared.Stage.{Stage}
-use Rattle.stream_format.specs.declared.Stage.the-variants.{Ended}
 use Rattle.stream_format.specs.declared.Event.{Event}
 use Rattle.stream_format.specs.declared.Event.the-variants.{Nothing, Record, Stepped}
 use Rattle.stream_format.specs.Streams.{framed, next-byte, Doing, Stream, stream, completed, byte-taken, chunk-taken}
@@ -42,12 +41,6 @@ module _ {X : Type 0} (kind : Kind) (doing : Doing X) (x : X) where
       taken-after (f .stage) (f .room) (f .event) bytes
   taken-after stage room (Record size) (b ∷ bytes) = refl
   taken-after stage room Stepped (b ∷ bytes) = refl
-
-  -- after the end nothing is done
-  pub ended-taken : (number : ℕ) (room bytes : List ℕ) → chunk-taken kind doing (stream (Ended number) room x) bytes ≡ stream (Ended number) room x
-  unfolding chunk-taken fed byte-taken next-byte completed
-  ended-taken number room [] = refl
-  ended-taken number room (b ∷ bytes) = ended-taken number room bytes
 
   module _ {stage : Stage} {room chunk : List ℕ} {at : ℕ} {next : Next} {room' : List ℕ} (goes : GoesFrom kind stage room chunk at next room') where
     -- What a chunk does from a place on: what is complete at the next place is done, and what the chunk does from there follows.
