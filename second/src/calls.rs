@@ -197,8 +197,10 @@ pub struct Lent {
 /// What an import is lent beside its table and its chunk.
 #[derive(Clone, Debug, PartialEq, Eq)]
 pub struct Stream {
-    /// Routes accepted, routes refused, records with none.
+    /// Of an import: routes accepted, routes refused, records with none.
     pub counts: [u32; 3],
+    /// Of a replay: records seen, UPDATEs applied, routes accepted, and routes refused under each number from 0 to 19.
+    pub tally: [u32; 23],
     pub words: [u32; 3],
     /// Always 65,548 bytes.
     pub room: Vec<u8>,

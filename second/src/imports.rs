@@ -1,24 +1,16 @@
 //! A dump that comes in chunks: what C gets, and what table, counts, words and room hold after each call.
 //!
-//! Every byte is taken by itself. `records` says what stands in a body and which hop it gives. Each route is
-//! done by a single add of `rules`, which is also asked for refusals 1 and 2. Slips are told as there: the arm
-//! `_` and the first value of `or` are right.
+//! `framing` takes every byte by itself. `records` says what stands in a body and which hop it gives. Each
+//! route is done by a single add of `rules`, which is also asked for refusals 1 and 2. Slips are told as there:
+//! the arm `_` and the first value of `or` are right.
 
 use super::calls::{Call, Lent, Settings, Stream};
+use super::framing::{self, Place, Step, HEADER, MOST, REFUSAL};
 use super::records::{hop, read_with};
 use super::rules::answer;
 use super::slips::Slip;
 
 pub use super::records::{read_body, Recorded};
-
-/// What a refusal is multiplied by in the number that C gets.
-const REFUSAL: u64 = 1 << 48;
-
-/// How many bytes a header has.
-const HEADER: usize = 12;
-
-/// How many bytes a body may have that is read, and a chunk.
-const MOST: usize = 65_536;
 
 /// Takes one chunk, as it crosses from C, and gives its answer as one number.
 pub fn import_chunk(
@@ -41,7 +33,7 @@ pub fn import_chunk(
 
 /// Ends a stream, and gives its answer as one number.
 pub fn end_stream(words: &mut [u32; 3], slip: Option<Slip>) -> u64 {
-    let number = match ended(words, slip) {
+    let number = match framing::ended(words, slip) {
         Some(number) if slip != Some(Slip::StreamEndAnew) => number,
         _ => end(words, slip),
     };
@@ -62,15 +54,6 @@ fn end(words: &mut [u32; 3], slip: Option<Slip>) -> u32 {
         *words = [number + 1, 0, 0];
     }
     number
-}
-
-/// The number that ended a stream, if it has ended.
-fn ended(words: &[u32; 3], slip: Option<Slip>) -> Option<u32> {
-    let number = words[0].checked_sub(1)?;
-    match slip {
-        Some(Slip::StreamNumberLowByte) => Some(number % 256),
-        _ => Some(number % 65_536),
-    }
 }
 
 /// A stream, with the table and the list of hops that it is for.
@@ -100,21 +83,14 @@ impl Import<'_> {
         }
     }
 
-    /// The number that a chunk gets before its bytes are looked at, if it gets one: that which ended the
-    /// stream, then 19, then 1 or 2.
+    /// The number that a chunk gets before its bytes are looked at, if it gets one.
     fn before_all(&self, chunk: &[u8]) -> Option<u32> {
-        let of_end = match ended(&self.stream.words, self.slip) {
-            Some(0) if self.is(Slip::StreamGoesOnAfterEnd) => None,
-            of_end => of_end,
-        };
-        let too_much = if self.too_much(chunk) { Some(19) } else { None };
         let of_table = self.table_refusal(chunk);
-        match self.slip {
-            Some(Slip::StreamEndedAfter19) => too_much.or(of_end).or(of_table),
-            Some(Slip::StreamEndedLast) => too_much.or(of_table).or(of_end),
-            Some(Slip::ImportTableBefore19) => of_end.or(of_table).or(too_much),
-            _ => of_end.or(too_much).or(of_table),
-        }
+        let too_much = match self.slip {
+            Some(Slip::ImportTableBefore19) => of_table.is_none() && self.too_much(chunk),
+            _ => self.too_much(chunk),
+        };
+        framing::before_all(&self.stream.words, too_much, of_table, self.slip)
     }
 
     /// Whether the chunk is too long, or a count too high.
@@ -129,17 +105,12 @@ impl Import<'_> {
         too_long || self.stream.counts[..asked].iter().any(|count| *count > above)
     }
 
-    /// The number 1 or 2, if a single add gives it. No memory goes with this one, so it can change none.
+    /// The number 1 or 2, if a single add gives it.
     fn table_refusal(&self, chunk: &[u8]) -> Option<u32> {
         if chunk.is_empty() && self.is(Slip::ImportEmptyUnasked) {
             return None;
         }
-        let call = Call::Add { prefix: 0, length: 0, hop: 0 };
-        match answer(self.t, &mut [], &mut [], self.lent, call, self.rules_slip()) / REFUSAL {
-            // Only a slip gives 18.
-            number @ (1 | 2 | 18) => Some(number as u32),
-            _ => None,
-        }
+        framing::table_refusal(self.t, self.lent, self.rules_slip())
     }
 
     /// The slip for a single add, but none of its 64-bit number: no such number crosses here.
@@ -161,28 +132,6 @@ impl Import<'_> {
 
 // ---- Byte by byte ----
 
-/// Where a stream that goes on stands.
-#[derive(Clone, Copy)]
-enum Place {
-    /// So many bytes of a header have been read.
-    Header(usize),
-    /// In the body of a record that is read: so many of its bytes stand in the room, so many are to come.
-    Read(usize, u32),
-    /// In a body that is stepped over: so many bytes are to come.
-    SteppedOver(u32),
-}
-
-impl Place {
-    /// The words that say so.
-    fn words(self) -> [u32; 3] {
-        match self {
-            Place::Header(read) => [0, read as u32, 0],
-            Place::Read(read, left) => [0, read as u32, left],
-            Place::SteppedOver(left) => [0, 0, left],
-        }
-    }
-}
-
 impl Import<'_> {
     /// Takes the bytes of a chunk, up to one that ends the import; gives the number that ended it, or 0.
     fn take_all(&mut self, chunk: &[u8]) -> u32 {
@@ -194,75 +143,34 @@ impl Import<'_> {
         }
         let undoes = self.is(Slip::ImportEndingUndoes);
         let before = undoes.then(|| (self.counters.to_vec(), self.slots.to_vec(), self.stream.counts));
-        let mut place = self.place();
-        for byte in chunk {
-            place = match self.take(place, *byte) {
-                Ok(next) => next,
-                Err(number) => {
-                    if let Some((counters, slots, counts)) = before {
-                        self.counters.copy_from_slice(&counters);
-                        self.slots.copy_from_slice(&slots);
-                        self.stream.counts = counts;
-                    }
-                    self.stream.words = [number + 1, 0, 0];
-                    return number;
-                }
-            };
+        let from = framing::place(&self.stream.words, self.of_kind(), self.slip);
+        let (number, words) = framing::take_each(from, chunk, |place, byte| self.take(place, byte));
+        if let Some((counters, slots, counts)) = before.filter(|_| number != 0) {
+            self.counters.copy_from_slice(&counters);
+            self.slots.copy_from_slice(&slots);
+            self.stream.counts = counts;
         }
-        self.stream.words = place.words();
-        0
-    }
-
-    /// What the words mean, of a stream that goes on.
-    fn place(&self) -> Place {
-        let [_, read, left] = self.stream.words;
-        let (room, taken) = (read as usize, read as usize + left as usize);
-        if left == 0 {
-            let begun = if room < HEADER { room } else { 0 };
-            return Place::Header(self.or(begun, Slip::StreamHeaderAnew, 0));
-        }
-        let fits = taken <= HEADER + MOST || self.is(Slip::StreamSumUnasked);
-        let of_kind = self.of_kind() || self.is(Slip::StreamRoomUnasked);
-        if room >= HEADER && fits && of_kind {
-            Place::Read(room, left)
-        } else {
-            Place::SteppedOver(left)
-        }
+        self.stream.words = words;
+        number
     }
 
     /// Takes one byte; gives where the stream then stands, or the number that ends it.
     fn take(&mut self, place: Place, byte: u8) -> Result<Place, u32> {
-        match place {
-            Place::Header(read) => {
-                self.keep(read, byte);
-                if read + 1 < HEADER {
-                    return Ok(Place::Header(read + 1));
-                }
-                self.header()
-            }
-            Place::Read(read, left) => {
-                self.keep(read, byte);
-                if read == HEADER + 4 && byte > 32 && self.is(Slip::StreamFaultEarly) {
-                    return Err(12);
-                }
-                if left > 1 {
-                    return Ok(Place::Read(read + 1, left - 1));
-                }
-                self.body(read + 1)
-            }
-            Place::SteppedOver(left) => {
-                if self.is(Slip::StreamSkippedKept) {
-                    self.keep(HEADER + self.size().wrapping_sub(left) as usize, byte);
-                }
-                Ok(if left > 1 { Place::SteppedOver(left - 1) } else { Place::Header(0) })
-            }
+        let step = framing::step(place, byte, self.stream, self.slip);
+        let of_length = matches!(place, Place::Read(read, _) if read == HEADER + 4);
+        if of_length && byte > 32 && self.is(Slip::StreamFaultEarly) {
+            return Err(12);
         }
+        self.follow(step)
     }
 
-    /// Writes a byte into the room. Only slips ask for a place behind it.
-    fn keep(&mut self, at: usize, byte: u8) {
-        if let Some(place) = self.stream.room.get_mut(at) {
-            *place = byte;
+    /// Goes on from what a byte completed.
+    fn follow(&mut self, step: Step) -> Result<Place, u32> {
+        match step {
+            Step::Within(place) => Ok(place),
+            Step::Header => self.header(),
+            Step::Record(read) => self.body(read),
+            Step::SteppedOver => Ok(Place::Header(0)),
         }
     }
 }
@@ -270,14 +178,9 @@ impl Import<'_> {
 // ---- A header ----
 
 impl Import<'_> {
-    /// The number in some bytes of the header in the room, the first one highest.
-    fn number(&self, from: usize, size: usize) -> u32 {
-        self.stream.room[from..from + size].iter().fold(0, |number, byte| number * 256 + *byte as u32)
-    }
-
     /// Whether the header in the room is that of a RIB_IPV4_UNICAST record of TABLE_DUMP_V2.
     fn of_kind(&self) -> bool {
-        let (kind, subkind) = (self.number(4, 2), self.number(6, 2));
+        let (kind, subkind) = framing::kinds(self.stream);
         match self.slip {
             Some(Slip::ImportTypeUnasked) => subkind == 2,
             Some(Slip::ImportSubtypeUnasked) => kind == 13,
@@ -287,16 +190,15 @@ impl Import<'_> {
 
     /// How many bytes the body has, by the header in the room.
     fn size(&self) -> u32 {
-        let field = self.number(8, 4);
+        let field = framing::body_size(self.stream, self.slip);
         match self.slip {
             Some(Slip::ImportSizeInclusive) => field.saturating_sub(12),
             Some(Slip::ImportSizeLow16Bits) => field % 65_536,
-            Some(Slip::StreamEmptyBodyWaits) => field.max(1),
             _ => field,
         }
     }
 
-    /// Goes on from a whole header to its body, or past it if that is empty.
+    /// Goes on from a whole header.
     fn header(&mut self) -> Result<Place, u32> {
         let (of_kind, size) = (self.of_kind(), self.size());
         let most = self.or(MOST, Slip::ImportLargeFrom65536, MOST - 1);
@@ -307,12 +209,7 @@ impl Import<'_> {
             }
             self.ends(14)?;
         }
-        match (of_kind, size) {
-            (true, 0) => self.body(HEADER),
-            (true, _) => Ok(Place::Read(HEADER, size)),
-            (false, 0) => Ok(Place::Header(0)),
-            (false, _) => Ok(Place::SteppedOver(size)),
-        }
+        self.follow(framing::after_header(of_kind, size))
     }
 
     /// Ends the import with a number; nothing of this record is counted, but by a slip.
@@ -329,7 +226,7 @@ impl Import<'_> {
 impl Import<'_> {
     /// Does the record of which so many bytes stand in the room; the next header follows.
     fn body(&mut self, read: usize) -> Result<Place, u32> {
-        let body = self.stream.room[HEADER..read.min(HEADER + MOST)].to_vec();
+        let body = framing::body(self.stream, read);
         match (self.slip, read_with(&body, self.hops, self.slip)) {
             (_, Ok(said)) => self.add(said),
             (Some(Slip::ImportFaultStepped), _) => (),

@@ -1,9 +1,10 @@
 //! Rules of the table got wrong on purpose, one at a time, so that a comparison can be seen to notice.
 //!
 //! Those named `Paper…` bend `Routes`, those named `List…` bend `answer_list`, those named `Message…` bend
-//! `read_message`, those named `Written…` bend `write_withdrawal` and those named `Import…` or `Stream…` bend
-//! `import_chunk` and `end_stream`; all others bend `answer`, and a list, a message or an import where it is
-//! done by single calls. Each name leaves the other sides right.
+//! `read_message`, those named `Written…` bend `write_withdrawal`, those named `Import…` bend `import_chunk`,
+//! those named `Replay…` bend `replay_chunk` and those named `Stream…` bend both of these and `end_stream`;
+//! all others bend `answer`, and a list, a message, an import or a replay where it is done by single calls.
+//! Each name leaves the other sides right.
 
 use super::calls::Call;
 
@@ -684,6 +685,7 @@ slips! {
     ImportEndingUndoes: "import: 14 and 12 undo and uncount what the chunk did before",
     ImportFaultStepped: "import: a record that cannot be read is stepped over, and does not end it",
     ImportFaultLate: "import: 12 for what comes after a hop leaves the route added and counted",
+    // Bends an import only: a replay has no prefix length in this place.
     StreamFaultEarly: "stream: a prefix length above 32 gives 12 at once, before the rest of the body",
     // Imports: the parts of a body.
     ImportPrefixTo31: "import: a prefix of length 32 is refused as 12",
@@ -726,6 +728,40 @@ slips! {
     StreamFullHeaderInside: "stream: an end gives 17 when word 1 is 12 or more and nothing is to come",
     StreamEndAnew: "stream: an end after the end is judged anew",
     StreamEndUnwritten: "stream: an end leaves the words as they were",
+    // Replays: what is asked before any byte.
+    ReplayFigureEdge: "replay: a figure of 4,000,000,000 gives 19",
+    ReplayFiguresFirstOnly: "replay: only records seen, UPDATEs applied and routes accepted are asked for 19",
+    // Differs only where a caller lends a figure under number 19 that is too high.
+    ReplayFigureLastUnasked: "replay: the figure under number 19 is not asked for 19",
+    ReplayTallyZeroed: "replay: a new chunk begins with figures of zero",
+    // Replays: the header.
+    ReplayType17Read: "replay: type 17 is read as 16",
+    ReplayLocalRead: "replay: subtypes 6 and 7, the local forms, are read as 1 and 4",
+    ReplayLargeIpv4Only: "replay: a body above 65,536 bytes gives 14 once its family is read, for IPv4 only",
+    // Differs only where a chunk ends inside the body, or the body is never whole.
+    ReplaySteppedSeenEarly: "replay: a record that is stepped over is seen at its header",
+    // Replays: what a record holds.
+    ReplayNumbersFourBytes: "replay: subtype 1 is read with AS numbers of four bytes",
+    // Differs only for families such as 257.
+    ReplayFamilyLowByte: "replay: only the low byte of the address family is read",
+    ReplayFamiliesEnd: "replay: address families other than IPv4 end it with 12",
+    ReplayIpv6Asked: "replay: an IPv6 body too short for its addresses and a message's header gives 12",
+    ReplayShortFamilySeen: "replay: a body too short to hold the address family is only seen",
+    ReplayShortMessageSeen: "replay: an IPv4 body too short for addresses and a message's header is only seen",
+    ReplayOtherTypesMarker: "replay: a KEEPALIVE, or what else is no UPDATE, with a bad marker ends it with 12",
+    ReplayBytesAfter: "replay: bytes after the message, as long as that says it is, pass",
+    // Replays: UPDATEs.
+    ReplayFaultSeen: "replay: an UPDATE refused as 12 is only seen and does not end it",
+    ReplayHopApplied: "replay: an UPDATE refused as 13 counts as applied",
+    ReplayHopWithdraws: "replay: an UPDATE refused as 13 has its withdrawn routes withdrawn and counted",
+    ReplayHopCounted: "replay: the announced routes of an UPDATE refused as 13 are counted under 13",
+    ReplayEmptyUnapplied: "replay: an UPDATE without routes does not count as applied",
+    ReplayRefusedUnapplied: "replay: an UPDATE with a route that is refused does not count as applied",
+    ReplayAnnouncedFirst: "replay: announced routes go before withdrawn ones",
+    ReplaySevenAsEight: "replay: routes refused as 7 are counted under 8",
+    // Replays: what 14 and 12 leave behind.
+    ReplayEndingSeen: "replay: the record that ends it counts as seen",
+    ReplayEndingLosesFigures: "replay: a chunk that ends in 14 or 12 loses the figures of the records before",
 }
 
 /// Two refusals of which the second is asked straight before the first; 0 and 0 when the order is right.
