@@ -11,7 +11,9 @@ use Rattle.rules.specs.Tools.{within, all}
 use Rattle.rules.specs.Table.{list-in-range, in-range, Memory, refuse, memory-refusal, route-refusal, add-refusal, withdraw-refusal, change-refusal, unless-refused, clear, add, withdraw, change, match-vector, vector-number, c-match-vector, refused, lookup, answer-number, c-lookup, answered, listed, list-refusal, c-list-refusal, c-lookup-list}
 use Rattle.message_format.specs.Reading.{message-refusal, refused-message, apply-message}
 use Rattle.stream_format.specs.Kept.{is-ended, ended-number}
-use Rattle.import_format.specs.Importing.{counts-of, counts-high, chunk-refusal, as-it-was, import-chunk}
+use Rattle.stream_format.specs.Chunks.{Reading, chunk-refusal, as-it-was, take-chunk}
+use Rattle.import_format.specs.Importing.{importing, import-chunk}
+use Rattle.replay_format.specs.Replaying.{replaying, replay-chunk}
 use Rattle.c_calls.specs.Lent.{settings-of, whole}
 
 outside : (t : Settings) → list-in-range (t .d) ≡ false → in-range t ≡ false
@@ -76,14 +78,24 @@ module _ {t : Settings} {k e s a b c : ℕ} (d : List ℕ) (made : t ≡ setting
   unfolding apply-message message-refusal
   message-alike m message hops = alike (λ u. apply-message u m message hops) (refused-message 1 m) (λ u out. rw (is-1 u out))
 
-  pub import-alike : (m : Memory) (hops counts words room chunk : List ℕ)
-      → import-chunk (settings-of k d e s a b c) m hops counts words room chunk ≡ import-chunk t m hops counts words room chunk
-  unfolding import-chunk chunk-refusal
-  import-alike m hops counts words room chunk =
-      let bad = ltb 65536 (length chunk) || counts-high (counts-of counts) in
-      alike (λ u. import-chunk u m hops counts words room chunk)
+  chunk-alike : {C : Type 0} (r : Reading C) (m : Memory) (counts words room chunk : List ℕ)
+      → take-chunk (settings-of k d e s a b c) r m counts words room chunk ≡ take-chunk t r m counts words room chunk
+  unfolding take-chunk chunk-refusal
+  chunk-alike r m counts words room chunk =
+      let bad = ltb 65536 (length chunk) || r .counts-high (r .counts-of counts) in
+      alike (λ u. take-chunk u r m counts words room chunk)
       (cond (is-ended words) (as-it-was (ended-number words) m counts words room) (as-it-was (refuse bad 19 1) m counts words room))
       (λ u out. rw (is-1 u out, refused-after bad))
+
+  pub import-alike : (m : Memory) (hops counts words room chunk : List ℕ)
+      → import-chunk (settings-of k d e s a b c) m hops counts words room chunk ≡ import-chunk t m hops counts words room chunk
+  unfolding import-chunk
+  import-alike m hops = chunk-alike (importing hops) m
+
+  pub replay-alike : (m : Memory) (hops tally words room chunk : List ℕ)
+      → replay-chunk (settings-of k d e s a b c) m hops tally words room chunk ≡ replay-chunk t m hops tally words room chunk
+  unfolding replay-chunk
+  replay-alike m hops = chunk-alike (replaying hops) m
 
   pub vector-alike : (counters slots : List ℕ) (address : ℕ) → c-match-vector (settings-of k d e s a b c) counters slots address ≡ c-match-vector t counters slots address
   unfolding c-match-vector match-vector

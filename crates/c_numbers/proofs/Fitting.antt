@@ -18,7 +18,7 @@ use Rattle.rules.specs.Calls.{run}
 use Rattle.rules.proofs.Marks.{hop-high}
 use Rattle.rules.proofs.Members.{both}
 use Rattle.rules.proofs.Lowest.{some-lowest}
-use Rattle.message_format.specs.Reading.{message-refusal, message-calls, counts, refused-message, apply-message as do-message}
+use Rattle.message_format.specs.Reading.{update-refusal, message-refusal, message-calls, counts, refused-message, apply-message as do-message}
 use Rattle.message_format.specs.Writing.{writing-refusal, write-withdrawal}
 use Rattle.message_format.proofs.Counting.{counts-fit}
 use Rattle.c_numbers.specs.Fitting.{refusals-end, RefusalFits, Fits, CountsFit}
@@ -70,7 +70,7 @@ vector-fits t m address = memory-fits t m
 -- ---- Reports
 
 number-fits : (t : Settings) (m : Memory) (message hops : List ℕ) → RefusalFits (message-refusal t m message hops)
-unfolding message-refusal memory-refusal
+unfolding update-refusal message-refusal memory-refusal
 number-fits t m message hops = search (refuse-fits, none-fits) depth 20
 
 pub message-fits : (t : Settings) (m : Memory) (message hops : List ℕ) → CountsFit (do-message t m message hops .report)

@@ -1,4 +1,4 @@
--- What a chunk of a dump and the end of a stream give back fits: a stream is ended by 14, by the number of a record, by 17 or
+-- What a chunk and the end of a stream give back fits: a stream is ended by 14, by the number of a record, by 17 or
 -- by 0, and the words that are lent mean a number of sixteen bits.
 use Prim.Native.Nat.{ℕ, _+_}
 use mathlib.Core.Bool.{Bool, true, false, cond, _||_}
@@ -16,8 +16,11 @@ use Rattle.stream_format.specs.declared.Event.{Event}
 use Rattle.stream_format.specs.declared.Event.the-variants.{Nothing, Record, Stepped}
 use Rattle.stream_format.specs.Streams.{is-kind, body-size, Framed, to-read, to-step-over, header-read, next-byte, Done, Doing, Stream, unless-ended, completed, byte-taken, chunk-taken}
 use Rattle.stream_format.specs.Kept.{left-word, is-ended, ended-number, is-body, stage-of, inside-record, End, end-number, end-stream}
-use Rattle.import_format.specs.Routes.{dump-kind, record-good}
-use Rattle.import_format.specs.Importing.{Filling, record-imported, importing, counts-of, counts-high, chunk-refusal, stage-number, Imported, lent-back, taken-up, import-chunk}
+use Rattle.stream_format.specs.Chunks.{Reading, Work, record-done, record-over, doing, chunk-refusal, stage-number, Chunked, lent-back, taken-up, take-chunk}
+use Rattle.import_format.specs.Routes.{record-good}
+use Rattle.import_format.specs.Importing.{importing, import-chunk}
+use Rattle.replay_format.specs.Messages.{record-bad}
+use Rattle.replay_format.specs.Replaying.{replaying, replay-chunk}
 use Rattle.c_numbers.specs.Fitting.{RefusalFits}
 use Rattle.c_numbers.proofs.Fitting.{memory-fits}
 
@@ -98,18 +101,33 @@ end-fits words =
     either (λ (u : End). RefusalFits (u .number)) (is-ended words) (ended-fits words)
     (either RefusalFits (inside-record words) (lit< tt) (lit< tt))
 
--- ---- An import
+-- ---- A chunk
 
-record-fits : (t : Settings) (hops : List ℕ) (f : Filling) (bytes : List ℕ) → RefusalFits (record-imported t hops f bytes .number)
-unfolding record-imported
-record-fits t hops f bytes = either (λ (d : Done Filling). RefusalFits (d .number)) (record-good bytes) (lit< tt) (lit< tt)
+-- where the records end it by numbers that fit
+module _ {C : Type 0} (t : Settings) (r : Reading C) (fits : (bytes : List ℕ) → RefusalFits (r .ends-with bytes)) where
+  record-fits : (w : Work C) (bytes : List ℕ) → RefusalFits (record-done t r w bytes .number)
+  unfolding record-done
+  record-fits w bytes = either (λ (d : Done (Work C)). RefusalFits (d .number)) (eqb (r .ends-with bytes) 0) (lit< tt) (fits bytes)
 
--- and that of a chunk.
+  over-fits : (w : Work C) → RefusalFits (record-over r w .number)
+  unfolding record-over
+  over-fits w = lit< tt
+
+  chunk-fits : (m : Memory) (counts words room chunk : List ℕ) → RefusalFits (take-chunk t r m counts words room chunk .number)
+  unfolding take-chunk lent-back doing taken-up chunk-refusal refuse
+  chunk-fits m counts words room chunk =
+      let high = r .counts-high (r .counts-of counts) in
+      either (λ (u : Chunked). RefusalFits (u .number)) (is-ended words) (ended-fits words)
+      (either (λ (u : Chunked). RefusalFits (u .number)) (eqb (chunk-refusal t m high chunk) 0)
+      (number-fits (taken-fits (r .kind) (doing t r) record-fits over-fits (taken-up r m counts words room) chunk (kept-fits (r .kind) words room)))
+      (either RefusalFits (ltb 65536 (length chunk) || high) (lit< tt) (memory-fits t m)))
+
+-- and that of a chunk of a dump,
 pub import-fits : (t : Settings) (m : Memory) (hops counts words room chunk : List ℕ) → RefusalFits (import-chunk t m hops counts words room chunk .number)
-unfolding import-chunk lent-back importing taken-up chunk-refusal refuse stage-number
-import-fits t m hops counts words room chunk =
-    let refusal = chunk-refusal t m (counts-of counts) chunk in
-    either (λ (u : Imported). RefusalFits (u .number)) (is-ended words) (ended-fits words)
-    (either (λ (u : Imported). RefusalFits (u .number)) (eqb refusal 0)
-    (number-fits (taken-fits dump-kind (importing t hops) (record-fits t hops) (λ f. omega arith) (taken-up counts words room m) chunk (kept-fits dump-kind words room)))
-    (either RefusalFits (ltb 65536 (length chunk) || counts-high (counts-of counts)) (lit< tt) (memory-fits t m)))
+unfolding import-chunk importing
+import-fits t m hops = chunk-fits t (importing hops) (λ bytes. either RefusalFits (record-good bytes) (lit< tt) (lit< tt)) m
+
+-- and of a day.
+pub replay-fits : (t : Settings) (m : Memory) (hops tally words room chunk : List ℕ) → RefusalFits (replay-chunk t m hops tally words room chunk .number)
+unfolding replay-chunk replaying
+replay-fits t m hops = chunk-fits t (replaying hops) (λ bytes. either RefusalFits (record-bad bytes) (lit< tt) (lit< tt)) m

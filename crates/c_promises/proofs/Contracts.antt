@@ -22,13 +22,15 @@ use borrow.Author.Tests.{lt-ltb}
 use borrow.Table.Referent.{fInt}
 use Rattle.rules.specs.Table.{lent, bytes-of}
 use Rattle.rules.specs.Calls.{Clear, Add, Withdraw, Change, word-sized, act}
-use Rattle.import_format.specs.Importing.{imported}
+use Rattle.stream_format.specs.Chunks.{chunked}
+use Rattle.import_format.specs.Importing.{import-chunk}
+use Rattle.replay_format.specs.Replaying.{replay-chunk}
 use Rattle.caller_promises.proofs.Contracts.{owned}
 use Rattle.caller_promises.proofs.Elements.{elements-owned}
 use Rattle.caller_promises.proofs.Messages.{all-bytes}
-use Rattle.caller_promises.proofs.Imports.{array-owned}
+use Rattle.caller_promises.proofs.Streams.{array-owned}
 use Rattle.c_promises.specs.Numbers.{gateway-refusal}
-use Rattle.c_promises.specs.Calls.{Updated, LookedUp, Matched, ListedUp, Sent, Wrote, ChunkImported, StreamEnded}
+use Rattle.c_promises.specs.Calls.{Updated, LookedUp, Matched, ListedUp, Sent, Wrote, ChunkImported, ChunkReplayed, StreamEnded}
 use Rattle.gateway.proofs.Arguments.{settings, past}
 use Rattle.gateway.proofs.gateway_clear
 use Rattle.gateway.proofs.gateway_clear.Reads as clear-reads
@@ -59,6 +61,9 @@ use Rattle.gateway.proofs.gateway_write_withdrawal.Reads as written-reads
 use Rattle.gateway.proofs.gateway_import
 use Rattle.gateway.proofs.gateway_import.Kinds as import-kinds
 use Rattle.gateway.proofs.gateway_import.Reads as import-reads
+use Rattle.gateway.proofs.gateway_replay
+use Rattle.gateway.proofs.gateway_replay.Kinds as replay-kinds
+use Rattle.gateway.proofs.gateway_replay.Reads as replay-reads
 use Rattle.gateway.proofs.gateway_end_stream
 use Rattle.gateway.proofs.gateway_end_stream.Reads as end-reads
 
@@ -111,10 +116,20 @@ written-made κs a r end learnt = learnt
 -- A chunk of a dump: before it the number is that of the chunk before, which says nothing.
 pub import-made : (κs : Lfts 8) (a : ArgsD gateway_import.signature κs) (r : ResD gateway_import.signature κs) (end : AtExit gateway_import.ended κs) → import-reads.Learnt κs a r end
     → areBytes (now (past a .1 .1 .1 .1 .1 .0)) ≡ true → areBytes (now (past a .1 .1 .1 .1 .1 .1 .0)) ≡ true → (number : ℕ)
-    → ChunkImported (settings a) (now (past a .1 .1 .0)) (imported number (now (past a .1 .1 .1 .0)) (now (past a .1 .1 .1 .1 .0)) (now (past a .1 .1 .1 .1 .1 .0)) (now (past a .0)) (now (past a .1 .0)))
+    → ChunkImported (settings a) (now (past a .1 .1 .0)) (chunked number (now (past a .1 .1 .1 .0)) (now (past a .1 .1 .1 .1 .0)) (now (past a .1 .1 .1 .1 .1 .0)) (now (past a .0)) (now (past a .1 .0)))
     (now (past a .1 .1 .1 .1 .1 .1 .0)) r
-    (imported (gateway-refusal r) (now (past end .1 .1 .1 .0)) (now (past end .1 .1 .1 .1 .0)) (now (past end .1 .1 .1 .1 .1 .0)) (now (past end .0)) (now (past end .1 .0)))
+    (chunked (gateway-refusal r) (now (past end .1 .1 .1 .0)) (now (past end .1 .1 .1 .1 .0)) (now (past end .1 .1 .1 .1 .1 .0)) (now (past end .0)) (now (past end .1 .0)))
+unfolding import-chunk
 import-made κs a r end learnt room-bytes bytes number = record { room-bytes = room-bytes; bytes = bytes; number = refl; crossed = learnt }
+
+-- So a chunk of a day.
+pub replay-made : (κs : Lfts 8) (a : ArgsD gateway_replay.signature κs) (r : ResD gateway_replay.signature κs) (end : AtExit gateway_replay.ended κs) → replay-reads.Learnt κs a r end
+    → areBytes (now (past a .1 .1 .1 .1 .1 .0)) ≡ true → areBytes (now (past a .1 .1 .1 .1 .1 .1 .0)) ≡ true → (number : ℕ)
+    → ChunkReplayed (settings a) (now (past a .1 .1 .0)) (chunked number (now (past a .1 .1 .1 .0)) (now (past a .1 .1 .1 .1 .0)) (now (past a .1 .1 .1 .1 .1 .0)) (now (past a .0)) (now (past a .1 .0)))
+    (now (past a .1 .1 .1 .1 .1 .1 .0)) r
+    (chunked (gateway-refusal r) (now (past end .1 .1 .1 .0)) (now (past end .1 .1 .1 .1 .0)) (now (past end .1 .1 .1 .1 .1 .0)) (now (past end .0)) (now (past end .1 .0)))
+unfolding replay-chunk
+replay-made κs a r end learnt room-bytes bytes number = record { room-bytes = room-bytes; bytes = bytes; number = refl; crossed = learnt }
 
 pub end-made : (κs : Lfts 1) (a : ArgsD gateway_end_stream.signature κs) (r : ResD gateway_end_stream.signature κs) (end : AtExit gateway_end_stream.ended κs) → end-reads.Learnt κs a r end
     → StreamEnded (now (a .0)) r (now (end .0))
@@ -175,3 +190,14 @@ module _ (w : World) (κs : Lfts 8) (qs : Shares 8) (a : ArgsD gateway_import.si
 
   pub chunk-bytes-owned : ent (w .𝓤) (onEntry (w .𝓤) (w .H) (w .𝓖 .A) gateway_import.signature κs qs a vss) (w .H .⇛ (fact (w .𝓤) (areBytes (now (past a .1 .1 .1 .1 .1 .1 .0)) ≡ true)))
   chunk-bytes-owned = elements-owned w import-kinds.ps import-kinds.r κs qs a vss (fInt w8) 13 7 tt (past a .1 .1 .1 .1 .1 .1 .0) refl (all-bytes (now (past a .1 .1 .1 .1 .1 .1 .0)))
+
+-- So of a replay.
+module _ (w : World) (κs : Lfts 8) (qs : Shares 8) (a : ArgsD gateway_replay.signature κs) (vss : Valss (typesAt (gateway_replay.signature .params) κs)) where
+  pub replay-owned : ent (w .𝓤) (onEntry (w .𝓤) (w .H) (w .𝓖 .A) gateway_replay.signature κs qs a vss) (fact (w .𝓤) (GoodsP κs replay-kinds.ps a))
+  replay-owned = owned w replay-kinds.ps replay-kinds.r κs qs a vss
+
+  pub day-room-bytes-owned : ent (w .𝓤) (onEntry (w .𝓤) (w .H) (w .𝓖 .A) gateway_replay.signature κs qs a vss) (w .H .⇛ (fact (w .𝓤) (areBytes (now (past a .1 .1 .1 .1 .1 .0)) ≡ true)))
+  day-room-bytes-owned = array-owned w replay-kinds.ps replay-kinds.r κs qs a vss 65548 12 6 tt (past a .1 .1 .1 .1 .1 .0) refl
+
+  pub day-bytes-owned : ent (w .𝓤) (onEntry (w .𝓤) (w .H) (w .𝓖 .A) gateway_replay.signature κs qs a vss) (w .H .⇛ (fact (w .𝓤) (areBytes (now (past a .1 .1 .1 .1 .1 .1 .0)) ≡ true)))
+  day-bytes-owned = elements-owned w replay-kinds.ps replay-kinds.r κs qs a vss (fInt w8) 13 7 tt (past a .1 .1 .1 .1 .1 .1 .0) refl (all-bytes (now (past a .1 .1 .1 .1 .1 .1 .0)))

@@ -23,15 +23,19 @@ use Rattle.promises.proofs.Histories.{made}
 use Rattle.promises.proofs.Promises.{finds-longest, says-none}
 use Rattle.message_promises.specs.Heard.{heard-calls}
 use Rattle.message_promises.proofs.Premises.{message, hops, calls, its-calls}
-use Rattle.import_format.specs.Importing.{Imported as Lent}
-use Rattle.import_promises.specs.Dumps.{untaken, imported-calls, next-chunk, Imports}
-use Rattle.caller_promises.proofs.Imports.{NoneLeft, Next}
-use Rattle.caller_promises.proofs.Premises.{zeros-bytes, filling, dump, begun}
+use Rattle.stream_format.specs.Chunks.{Chunked}
+use Rattle.import_format.specs.Importing.{importing}
+use Rattle.replay_format.specs.Replaying.{replaying}
+use Rattle.stream_promises.specs.Noted.{untaken, next-chunk}
+use Rattle.import_promises.specs.Dumps.{imported-calls, Imports}
+use Rattle.replay_promises.specs.Days.{replayed-calls, Replays}
+use Rattle.caller_promises.proofs.Streams.{NoneLeft, Next}
+use Rattle.caller_promises.proofs.Premises.{zeros-bytes, filling, dump, begun, running, day as recorded, day-begun}
 use Rattle.c_promises.specs.Numbers.{gateway-refusal, word-at, list-address, read-answer, read-report, read-result}
-use Rattle.c_promises.specs.Calls.{Updated, LookedUp, ListedUp, Sent, ChunkImported, Did, Single, Addresses, Heard, Imported}
+use Rattle.c_promises.specs.Calls.{Updated, LookedUp, ListedUp, Sent, ChunkImported, ChunkReplayed, Did, Single, Addresses, Heard, Imported, Replayed}
 use Rattle.c_promises.proofs.Unpacking.{answer-read, message-read}
 use Rattle.c_promises.proofs.Lists.{list-accepted, result-read}
-use Rattle.c_promises.proofs.Imports.{c-imports}
+use Rattle.c_promises.proofs.Chunks.{c-imports, c-replays}
 use Rattle.c_promises.proofs.Seat.{c-history}
 use Rattle.c_promises.proofs.Promises.{number-found, same-lookup-numbers, same-message-numbers}
 
@@ -70,16 +74,17 @@ record Worked (t : Settings) (before : Memory) : Type 0 where
   probed : probes-down-to t (stored-by day day-answers) (ip 10 2 2 3) 8 ≡ 1
   reported : apply-message t (act t Clear before .memory) message hops .report ≡ record { refusal = 0; accepted = 1; refused = 1 }
   calls-given : run t (act t Clear before .memory) calls .answers ≡ 7 ∷ 0 ∷ []
-  imported : next-chunk t hops (begun (act t Clear before .memory)) dump .number ≡ 0
+  imported : next-chunk t (importing hops) (begun (act t Clear before .memory)) dump .number ≡ 0
+  replayed : next-chunk t (replaying hops) (day-begun (act t Clear before .memory)) recorded .number ≡ 0
   add-given : run t (act t Clear before .memory) (Add (ip 10 0 0 0) 8 1 ∷ []) .answers ≡ 0 ∷ []
 
 at-T : Worked T sevens
-unfolding day day-answers filling
-at-T = record { cleared = refl; given = refl; probed = refl; reported = refl; calls-given = refl; imported = refl; add-given = refl }
+unfolding day day-answers running
+at-T = record { cleared = refl; given = refl; probed = refl; reported = refl; calls-given = refl; imported = refl; replayed = refl; add-given = refl }
 
 at-U : Worked U (record { counters = replicate 688 7; slots = replicate 257 7 })
-unfolding day day-answers filling
-at-U = record { cleared = refl; given = refl; probed = refl; reported = refl; calls-given = refl; imported = refl; add-given = refl }
+unfolding day day-answers running
+at-U = record { cleared = refl; given = refl; probed = refl; reported = refl; calls-given = refl; imported = refl; replayed = refl; add-given = refl }
 
 module _ {t : Settings} {before : Memory} (worked : Worked t before) where
   abbrev empty : Memory
@@ -155,8 +160,8 @@ module _ {t : Settings} {before : Memory} (worked : Worked t before) where
 
   -- ---- A dump of one record, in one chunk
 
-  abbrev filled : Lent
-  filled = next-chunk t hops (begun empty) dump
+  abbrev filled : Chunked
+  filled = next-chunk t (importing hops) (begun empty) dump
 
   abbrev number : ℕ
   number = filled .number * 2 ^ 48
@@ -172,7 +177,7 @@ module _ {t : Settings} {before : Memory} (worked : Worked t before) where
 
   import-lived : History t (Add (ip 10 0 0 0) 8 1 ∷ []) (0 ∷ []) (filled .memory)
   unfolding word-sized
-  import-lived = rw (stands-for, worked .add-given) at (c-history (updated t Clear before refl) (refusal-back _ ∙ worked .cleared) (Then (Imported import-made) Stop))
+  import-lived = rw (stands-for, worked .add-given) at (c-history (updated t Clear before refl) (refusal-back _ ∙ worked .cleared) (Then (Imported hops import-made) Stop))
 
   -- 10.2.2.3 gets the hop of the list's second place
   import-found-met : Finds (lookup t (filled .memory) (ip 10 2 2 3)) (route (ip 10 0 0 0) 8 1)
@@ -182,7 +187,33 @@ module _ {t : Settings} {before : Memory} (worked : Worked t before) where
   -- the chunk was taken
   imports-met : Imports t hops (begun empty) (dump ∷ []) filled
   unfolding untaken
-  imports-met = c-imports (Next (number, import-made) (rw (worked .imported)) NoneLeft)
+  imports-met = c-imports hops (Next (number, import-made) (rw (worked .imported)) NoneLeft)
+
+  -- ---- A day of one record, in one chunk
+
+  abbrev run-over : Chunked
+  run-over = next-chunk t (replaying hops) (day-begun empty) recorded
+
+  abbrev day-number : ℕ
+  day-number = run-over .number * 2 ^ 48
+
+  replay-made : ChunkReplayed t hops (day-begun empty) recorded day-number run-over
+  unfolding next-chunk
+  replay-made = record { room-bytes = zeros-bytes 65548; bytes = refl; number = sym (refusal-back (run-over .number)); crossed = record { number = refl; leaves = refl } }
+
+  -- its record is the two calls of the message, of which the first is refused
+  day-stands-for : replayed-calls hops (replicate 3 0) (replicate 65548 0) recorded (gateway-refusal day-number) ≡ calls
+  unfolding running
+  day-stands-for = rw (refusal-back (run-over .number), worked .replayed)
+
+  replay-lived : History t calls (7 ∷ 0 ∷ []) (run-over .memory)
+  unfolding word-sized
+  replay-lived = rw (day-stands-for, worked .calls-given) at (c-history (updated t Clear before refl) (refusal-back _ ∙ worked .cleared) (Then (Replayed hops replay-made) Stop))
+
+  -- the chunk was taken
+  replays-met : Replays t hops (day-begun empty) (recorded ∷ []) run-over
+  unfolding untaken
+  replays-met = c-replays hops (Next (day-number, replay-made) (rw (worked .replayed)) NoneLeft)
 
   -- ---- A table newly cleared
 

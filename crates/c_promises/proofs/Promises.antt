@@ -1,7 +1,7 @@
 -- What is said of the 64-bit numbers themselves, after a history: the number of a lookup as a whole, and demand 3's last
 -- sentence as equal numbers. All else that is promised to a C program is a promise of crates/promises,
--- crates/message_promises or crates/import_promises, of the answer that it reads: rw (answer-read asked) (finds-longest
--- history ..) is demand 2 of gateway_lookup (proofs/Unpacking.antt, proofs/Lists.antt, proofs/Imports.antt).
+-- crates/message_promises, crates/import_promises or crates/replay_promises, of the answer that it reads: rw (answer-read asked)
+-- (finds-longest history ..) is demand 2 of gateway_lookup (proofs/Unpacking.antt, proofs/Lists.antt, proofs/Chunks.antt).
 use Prim.Native.Nat.{ℕ, _+_, _*_, _^_}
 use mathlib.Core.Path.{_≡_, sym, ap, _∙_}
 use mathlib.Core.List.{List, [], _∷_, append-cancel-left}
@@ -15,12 +15,15 @@ use Rattle.promises.specs.Demands.{Reordered, Longest, NoMatch, probes-down-to,
 use Rattle.promises.proofs.Histories.{one-made, made-append}
 use Rattle.promises.proofs.Promises.{finds-longest, says-none, probes-counted, same-numbers, same-lookups-after, same-vectors-after}
 use Rattle.message_promises.proofs.Promises.{same-reports}
-use Rattle.import_format.specs.Importing.{Imported, as-it-was}
-use Rattle.import_promises.specs.Dumps.{next-chunk, SameGiven}
+use Rattle.stream_format.specs.Chunks.{Reading, Chunked, as-it-was}
+use Rattle.import_format.specs.Importing.{import-chunk}
+use Rattle.replay_format.specs.Replaying.{replay-chunk}
+use Rattle.stream_promises.specs.Noted.{next-chunk, SameGiven}
 use Rattle.import_promises.proofs.Promises.{same-imports}
+use Rattle.replay_promises.proofs.Promises.{same-replays}
 use Rattle.c_promises.specs.Numbers.{gateway-refusal}
-use Rattle.c_promises.specs.Calls.{Updated, LookedUp, Matched, ListedUp, Sent, ChunkImported}
-use Rattle.c_promises.proofs.Unpacking.{update-read, update-zero-elsewhere, looked-up, equal-lookups, equal-vectors, equal-messages, import-read, import-zero-elsewhere}
+use Rattle.c_promises.specs.Calls.{Updated, LookedUp, Matched, ListedUp, Sent, ChunkTaken, ChunkImported, ChunkReplayed}
+use Rattle.c_promises.proofs.Unpacking.{update-read, update-zero-elsewhere, looked-up, equal-lookups, equal-vectors, equal-messages, chunk-read, chunk-zero-elsewhere}
 use Rattle.c_promises.proofs.Lists.{equal-list-numbers, equal-lists}
 
 -- ---- The number of a lookup
@@ -47,6 +50,15 @@ module _ {t : Settings} {calls : List Call} {answers : List ℕ} {m : Memory} (h
       looked-up asked ∙ rw (probes-counted history address (asked .word), its .refusal, its .found, its .hop, its .length) (zero-add _)
 
 -- ---- Demand 3, of a table newly cleared under these settings, to which the stored routes are added, in any order
+
+-- two chunks that are given and leave the same cross back as the same number
+same-given-numbers : {C : Type 0} {t : Settings} {r : Reading C} {s new-s s' new-s' : Chunked} {chunk : List ℕ} {answer new-answer : ℕ}
+    → ChunkTaken t r s chunk answer s' → ChunkTaken t r new-s chunk new-answer new-s' → SameGiven (next-chunk t r new-s chunk) (next-chunk t r s chunk)
+    → (new-answer ≡ answer) × SameGiven new-s' s'
+same-given-numbers taken new-taken both =
+    let alike = rw (chunk-read new-taken, chunk-read taken) at both in
+    let numbers = sym (new-taken .number) ∙ alike .number ∙ taken .number in
+    (chunk-zero-elsewhere new-taken ∙ rw numbers (sym (chunk-zero-elsewhere taken)), alike)
 
 -- Whatever single calls are then made to both, none at all among others, the two give a C program the same 64-bit number. What
 -- it did to both is such calls by c-made (proofs/Seat.antt).
@@ -77,15 +89,20 @@ module _ {t : Settings} {calls : List Call} {answers : List ℕ} {m : Memory} (h
   same-message-numbers {message} {hops} sent new-sent = equal-messages sent new-sent (same-reports history same anew made made-anew message hops (sent .bytes))
 
   -- for a chunk of a dump, where counts, words and room are the same, and are left so,
-  pub same-import-numbers : {before new-before answer new-answer : ℕ} {hops counts words room chunk : List ℕ} {s' new-s' : Imported}
+  pub same-import-numbers : {before new-before answer new-answer : ℕ} (hops : List ℕ) {counts words room chunk : List ℕ} {s' new-s' : Chunked}
       → ChunkImported t hops (as-it-was before last counts words room) chunk answer s'
       → ChunkImported t hops (as-it-was new-before new-last counts words room) chunk new-answer new-s' → (new-answer ≡ answer) × SameGiven new-s' s'
-  unfolding next-chunk
-  same-import-numbers {hops = hops} {counts} {words} {room} {chunk} made-of new-made-of =
-      let both = same-imports history same anew made made-anew hops counts words room chunk (made-of .room-bytes) (made-of .bytes) in
-      let alike = rw (import-read new-made-of, import-read made-of) at both in
-      let numbers = sym (new-made-of .number) ∙ alike .number ∙ made-of .number in
-      (import-zero-elsewhere new-made-of ∙ rw numbers (sym (import-zero-elsewhere made-of)), alike)
+  unfolding next-chunk import-chunk
+  same-import-numbers hops {counts} {words} {room} {chunk} made-of new-made-of =
+      same-given-numbers made-of new-made-of (same-imports history same anew made made-anew hops counts words room chunk (made-of .room-bytes) (made-of .bytes))
+
+  -- for one of a day, where tally, words and room are,
+  pub same-replay-numbers : {before new-before answer new-answer : ℕ} (hops : List ℕ) {tally words room chunk : List ℕ} {s' new-s' : Chunked}
+      → ChunkReplayed t hops (as-it-was before last tally words room) chunk answer s'
+      → ChunkReplayed t hops (as-it-was new-before new-last tally words room) chunk new-answer new-s' → (new-answer ≡ answer) × SameGiven new-s' s'
+  unfolding next-chunk replay-chunk
+  same-replay-numbers hops {tally} {words} {room} {chunk} made-of new-made-of =
+      same-given-numbers made-of new-made-of (same-replays history same anew made made-anew hops tally words room chunk (made-of .room-bytes) (made-of .bytes))
 
   -- and for a list of addresses, over as many bytes of results.
   module _ {addresses results results' new-results new-results' : List ℕ} {answer new-answer : ℕ}

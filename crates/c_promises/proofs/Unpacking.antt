@@ -22,14 +22,14 @@ use Rattle.c_numbers.specs.Fitting.{Fits}
 use Rattle.message_format.specs.Reading.{refused-message, apply-message, report-number}
 use Rattle.message_format.proofs.Counting.{counts-fit}
 use Rattle.stream_format.specs.Kept.{End, ended-as}
-use Rattle.import_format.specs.Importing.{Imported, imported}
+use Rattle.stream_format.specs.Chunks.{Reading, Chunked, chunked}
 use Rattle.gateway.specs.Crossing.{ListCrossed, EndCrossed}
 use Rattle.c_numbers.proofs.Fitting.{lookup-fits}
 use Rattle.promises.proofs.Refused as demand-1
 use Rattle.message_promises.proofs.Refused.{refused-unchanged}
-use Rattle.import_promises.specs.Dumps.{next-chunk}
+use Rattle.stream_promises.specs.Noted.{next-chunk}
 use Rattle.c_promises.specs.Numbers.{gateway-refusal, gateway-found, gateway-hop, gateway-length, gateway-probes, gateway-vector, gateway-accepted, gateway-refused, read-answer, read-vector, read-report}
-use Rattle.c_promises.specs.Calls.{Updated, LookedUp, Matched, Sent, ChunkImported}
+use Rattle.c_promises.specs.Calls.{Updated, LookedUp, Matched, Sent, ChunkTaken}
 
 -- ---- Slots as bytes
 
@@ -259,19 +259,19 @@ pub equal-messages : {t : Settings} {m m' other other' : Memory} {message hops :
     → apply-message t other message hops .report ≡ apply-message t m message hops .report → new-answer ≡ answer
 equal-messages sent new-sent same = new-sent .crossed .number ∙ ap report-number same ∙ sym (sent .crossed .number)
 
--- ---- Dumps
+-- ---- Streams
 
-module _ {t : Settings} {hops chunk : List ℕ} {s s' : Imported} {answer : ℕ} (made : ChunkImported t hops s chunk answer s') where
+module _ {C : Type 0} {t : Settings} {r : Reading C} {chunk : List ℕ} {s s' : Chunked} {answer : ℕ} (made : ChunkTaken t r s chunk answer s') where
   -- A chunk gives back its number, and leaves what the rules leave.
-  pub import-read : next-chunk t hops s chunk ≡ s'
+  pub chunk-read : next-chunk t r s chunk ≡ s'
   unfolding next-chunk
-  import-read =
+  chunk-read =
       let number = made .number ∙ refusal-read answer _ (made .crossed .number) in
-      sym (ap (λ n. imported n (s' .counts) (s' .words) (s' .room) (s' .memory .counters) (s' .memory .slots)) number ∙ made .crossed .leaves)
+      sym (ap (λ n. chunked n (s' .counts) (s' .words) (s' .room) (s' .memory .counters) (s' .memory .slots)) number ∙ made .crossed .leaves)
 
   -- Every other bit of its number is zero.
-  pub import-zero-elsewhere : answer ≡ gateway-refusal answer * 2 ^ 48
-  import-zero-elsewhere = refusal-alone answer _ (made .crossed .number)
+  pub chunk-zero-elsewhere : answer ≡ gateway-refusal answer * 2 ^ 48
+  chunk-zero-elsewhere = refusal-alone answer _ (made .crossed .number)
 
 module _ {u : End} {answer : ℕ} {words : List ℕ} (crossed : EndCrossed u answer words) where
   -- The end of a stream gives back its number, and leaves the words that the rules leave.

@@ -13,11 +13,14 @@ use Rattle.rules.specs.Calls.{Call, word-sized, act, run}
 use Rattle.message_format.specs.Reading.{apply-message}
 use Rattle.message_format.specs.Writing.{write-withdrawal}
 use Rattle.stream_format.specs.Kept.{end-stream}
-use Rattle.import_format.specs.Importing.{Imported as Lent, import-chunk}
-use Rattle.gateway.specs.Crossing.{Crossed, ListCrossed, MessageCrossed, ImportCrossed, EndCrossed}
+use Rattle.stream_format.specs.Chunks.{Reading, Chunked, take-chunk}
+use Rattle.import_format.specs.Importing.{importing}
+use Rattle.replay_format.specs.Replaying.{replaying}
+use Rattle.gateway.specs.Crossing.{Crossed, ListCrossed, MessageCrossed, ChunkCrossed, EndCrossed}
 use Rattle.promises.specs.Demands.{Condition, _when_, memory-conditions}
 use Rattle.message_promises.specs.Heard.{heard-calls}
 use Rattle.import_promises.specs.Dumps.{imported-calls}
+use Rattle.replay_promises.specs.Days.{replayed-calls}
 use Rattle.c_promises.specs.Numbers.{gateway-refusal}
 
 -- ---- Single calls of include/gateway.h
@@ -51,13 +54,20 @@ pub record Sent (t : Settings) (m : Memory) (message hops : List ℕ) (answer : 
 abbrev pub Wrote : (p L : ℕ) (room : List ℕ) (answer : ℕ) (room' : List ℕ) → Type 0
 Wrote p L room answer room' = ListCrossed (write-withdrawal p L room) answer room'
 
--- a chunk of a dump: s is what is lent at entry, counts, words, room and table, and s' what is left of it, with the number that
--- the header reads
-pub record ChunkImported (t : Settings) (hops : List ℕ) (s : Lent) (chunk : List ℕ) (answer : ℕ) (s' : Lent) : Type 0 where
+-- a chunk: s is what is lent at entry, counts, words, room and table, and s' what is left of it, with the number that the header
+-- reads
+pub record ChunkTaken {C : Type 0} (t : Settings) (r : Reading C) (s : Chunked) (chunk : List ℕ) (answer : ℕ) (s' : Chunked) : Type 0 where
   pub room-bytes : areBytes (s .room) ≡ true
   pub bytes : areBytes chunk ≡ true
   pub number : s' .number ≡ gateway-refusal answer
-  pub crossed : ImportCrossed (import-chunk t (s .memory) hops (s .counts) (s .words) (s .room) chunk) answer (s' .counts) (s' .words) (s' .room) (s' .memory .counters) (s' .memory .slots)
+  pub crossed : ChunkCrossed (take-chunk t r (s .memory) (s .counts) (s .words) (s .room) chunk) answer (s' .counts) (s' .words) (s' .room) (s' .memory .counters) (s' .memory .slots)
+
+-- one of a dump, and one of a day
+abbrev pub ChunkImported : Settings → (hops : List ℕ) → Chunked → (chunk : List ℕ) (answer : ℕ) → Chunked → Type 0
+ChunkImported t hops = ChunkTaken t (importing hops)
+
+abbrev pub ChunkReplayed : Settings → (hops : List ℕ) → Chunked → (chunk : List ℕ) (answer : ℕ) → Chunked → Type 0
+ChunkReplayed t hops = ChunkTaken t (replaying hops)
 
 -- the end of a stream, of which the words are words' at exit
 abbrev pub StreamEnded : (words : List ℕ) (answer : ℕ) (words' : List ℕ) → Type 0
@@ -75,12 +85,14 @@ list-conditions t counters slots addresses results =
 
 -- One thing that a C program can do with a table under settings t: an update, which is a single call with the refusal that
 -- the header reads; a list of addresses, which is none and changes nothing; a message, which is its single calls, or none
--- where it was refused; or a chunk of a dump, which is the adds of the records that are complete with it, by the number that the
--- header reads.
+-- where it was refused; or a chunk of a dump or of a day, which is the calls of the records that are complete with it, by the
+-- number that the header reads.
 pub data Did (t : Settings) : Memory → List Call → List ℕ → Memory → Type 0 where
   Single : {call : Call} {m m' : Memory} {answer : ℕ} → Updated t call m answer m' → Did t m (call ∷ []) (gateway-refusal answer ∷ []) m'
   Addresses : {m : Memory} {addresses results results' : List ℕ} {answer : ℕ} → ListedUp t m addresses results answer results' → Did t m [] [] m
   Heard : {m m' : Memory} {message hops : List ℕ} {answer : ℕ} → Sent t m message hops answer m'
       → Did t m (heard-calls message hops (gateway-refusal answer)) (run t m (heard-calls message hops (gateway-refusal answer)) .answers) m'
-  Imported : {hops chunk : List ℕ} {s s' : Lent} {answer : ℕ} → ChunkImported t hops s chunk answer s'
+  Imported : (hops : List ℕ) {chunk : List ℕ} {s s' : Chunked} {answer : ℕ} → ChunkImported t hops s chunk answer s'
       → Did t (s .memory) (imported-calls hops (s .words) (s .room) chunk (gateway-refusal answer)) (run t (s .memory) (imported-calls hops (s .words) (s .room) chunk (gateway-refusal answer)) .answers) (s' .memory)
+  Replayed : (hops : List ℕ) {chunk : List ℕ} {s s' : Chunked} {answer : ℕ} → ChunkReplayed t hops s chunk answer s'
+      → Did t (s .memory) (replayed-calls hops (s .words) (s .room) chunk (gateway-refusal answer)) (run t (s .memory) (replayed-calls hops (s .words) (s .room) chunk (gateway-refusal answer)) .answers) (s' .memory)

@@ -1,9 +1,9 @@
--- What a caller of crates/table, crates/message_calls and crates/import_calls did after an accepted clear is a history: each
--- thing that it did is single calls, by the contracts alone. So every promise of crates/promises holds of what it was given, of
+-- What a caller of crates/table, crates/message_calls, crates/import_calls and crates/replay_calls did after an accepted clear is a
+-- history: each thing that it did is single calls, by the contracts alone. So every promise of crates/promises holds of what it was given, of
 -- a lookup and of a match vector by looked-given and matched-given, and of place i of a list by place-looked
 -- (proofs/Contracts.antt); what crates/message_promises says of a message holds of its report, by message-applied
--- (proofs/Messages.antt), and what crates/import_promises says of a chunk holds of what it left, by import-applied
--- (proofs/Imports.antt).
+-- (proofs/Messages.antt), and what crates/import_promises and crates/replay_promises say of a chunk holds of what it left, by
+-- import-applied (proofs/Imports.antt) and replay-applied (proofs/Replays.antt).
 use Prim.Native.Nat.{ℕ}
 use mathlib.Core.Path.{_≡_, refl}
 use mathlib.Core.List.{List, [], _∷_}
@@ -16,33 +16,44 @@ use Rattle.promises.specs.Demands.{paper}
 use Rattle.promises.proofs.Histories.{routes-on-paper, made, one-made, seat-made, seat-history}
 use Rattle.message_promises.specs.Heard.{heard-calls}
 use Rattle.message_promises.proofs.Routes.{message-single}
-use Rattle.import_format.specs.Importing.{Imported as Lent}
-use Rattle.import_promises.specs.Dumps.{imported-calls, next-chunk}
+use Rattle.stream_format.specs.Chunks.{Chunked}
+use Rattle.import_format.specs.Importing.{import-chunk}
+use Rattle.replay_format.specs.Replaying.{replay-chunk}
+use Rattle.stream_promises.specs.Noted.{next-chunk}
+use Rattle.import_promises.specs.Dumps.{imported-calls}
 use Rattle.import_promises.proofs.Singles.{import-single}
+use Rattle.replay_promises.specs.Days.{replayed-calls}
+use Rattle.replay_promises.proofs.Singles.{replay-single}
 use Rattle.caller_promises.proofs.Contracts.{Called, called-acted, called-word, ListCalled}
 use Rattle.caller_promises.proofs.Messages.{MessageCalled, message-applied, message-bytes}
 use Rattle.caller_promises.proofs.Imports.{ImportCalled, import-applied, import-bytes}
+use Rattle.caller_promises.proofs.Replays.{ReplayCalled, replay-applied, replay-bytes}
 
 -- what a caller can do under settings t: an update, which is a single call; a list of addresses, which is none and changes
--- nothing; a message, which is its single calls, by the refusal that it was given back; or a chunk of a dump, which is the
--- adds of the records that are complete with it, by the number that it was given back
+-- nothing; a message, which is its single calls, by the refusal that it was given back; or a chunk of a dump or of a day, which
+-- is the calls of the records that are complete with it, by the number that it was given back
 pub data Did (t : Settings) : Memory → List Call → List ℕ → Memory → Type 0 where
   Single : {call : Call} {m m' : Memory} {r : ℕ} → Called t call m r m' → Did t m (call ∷ []) (r ∷ []) m'
   Addresses : {m : Memory} {addresses results results' : List ℕ} {r : ℕ} → ListCalled t m addresses results r results' → Did t m [] [] m
   Heard : {m m' : Memory} {message hops : List ℕ} {report : Report} → MessageCalled t m message hops report m'
       → Did t m (heard-calls message hops (report .refusal)) (run t m (heard-calls message hops (report .refusal)) .answers) m'
-  Imported : {hops chunk : List ℕ} {s s' : Lent} → ImportCalled t hops s chunk s'
+  Imported : {hops chunk : List ℕ} {s s' : Chunked} → ImportCalled t hops s chunk s'
       → Did t (s .memory) (imported-calls hops (s .words) (s .room) chunk (s' .number)) (run t (s .memory) (imported-calls hops (s .words) (s .room) chunk (s' .number)) .answers) (s' .memory)
+  Replayed : {hops chunk : List ℕ} {s s' : Chunked} → ReplayCalled t hops s chunk s'
+      → Did t (s .memory) (replayed-calls hops (s .words) (s .room) chunk (s' .number)) (run t (s .memory) (replayed-calls hops (s .words) (s .room) chunk (s' .number)) .answers) (s' .memory)
 
 -- Each is single calls,
 pub did-single : {t : Settings} (m : Memory) (calls : List Call) (answers : List ℕ) (m' : Memory) → Did t m calls answers m' → SingleCalls t m calls answers m'
-unfolding all-word-sized run each next-chunk
+unfolding all-word-sized run each next-chunk import-chunk replay-chunk
 did-single m calls answers m' (Single called) = one-made (called-word called) (called-acted called)
 did-single {t} m calls answers m' (Addresses called) = made t m [] refl
 did-single {t} m calls answers m' (Heard {message = message} {hops = hops} called) = rw (message-applied called) at (message-single t m message hops (message-bytes called))
 did-single {t} m calls answers m' (Imported {hops} {chunk} {s} called) =
     let bytes = import-bytes called in
     rw (import-applied called) at (import-single t (s .memory) hops (s .counts) (s .words) (s .room) chunk (bytes .0) (bytes .1))
+did-single {t} m calls answers m' (Replayed {hops} {chunk} {s} called) =
+    let bytes = replay-bytes called in
+    rw (replay-applied called) at (replay-single t (s .memory) hops (s .counts) (s .words) (s .room) chunk (bytes .0) (bytes .1))
 
 -- and so are several, one after the other.
 pub served-made : {t : Settings} {m m' : Memory} {calls : List Call} {answers : List ℕ} → Ran (Did t) m calls answers m' → SingleCalls t m calls answers m'
@@ -53,7 +64,7 @@ pub served-history : {t : Settings} {before empty m : Memory} {calls : List Call
     → History t calls answers m
 served-history cleared ran = seat-history did-single (one-made (called-word cleared) (called-acted cleared)) ran
 
--- What they store follows from the updates, the messages and the dumps alone, refused ones left out: no answer is looked at but
+-- What they store follows from the updates, the messages, the dumps and the days alone, refused ones left out: no answer is looked at but
 -- a message's refusal and a chunk's number.
 pub served-stores : {t : Settings} {before empty m : Memory} {calls : List Call} {answers : List ℕ} → Called t Clear before 0 empty → Ran (Did t) empty calls answers m
     → stored-by calls answers ≡ paper t [] calls .last

@@ -1,9 +1,9 @@
--- Calls of crates/table, crates/message_calls and crates/import_calls as they were made, at their own types, meet the premises:
--- each is written down with its arguments and what it gave back, and handed to the promises.
+-- Calls of crates/table, crates/message_calls, crates/import_calls and crates/replay_calls as they were made, at their own types,
+-- meet the premises: each is written down with its arguments and what it gave back, and handed to the promises.
 use Prim.Native.Nat.{ℕ, zero, suc}
 use mathlib.Core.Path.{_≡_, refl}
 use mathlib.Core.Bool.{true}
-use mathlib.Core.List.{List, [], _∷_, map, map-id}
+use mathlib.Core.List.{List, [], _∷_, _++_, map, map-id}
 use native.Mathlib.Omega.{arith}
 use lib.Dec.{ltb, lit<}
 use lib.ListN.{length, replicate}
@@ -20,7 +20,7 @@ use denote.Struct.Field.{u8-field}
 use denote.Struct.Laws.{val}
 use borrow.Author.Tests.{ltb-true}
 use Rattle.rules.specs.declared.Settings.{Settings}
-use Rattle.rules.specs.Tools.{fed}
+use Rattle.rules.specs.Tools.{any, count, fed}
 use Rattle.rules.specs.Table.{Memory, lent, clear, add, lookup, answer-words, list-words, listed, fourfold, list-refusal, lookup-list}
 use Rattle.rules.specs.Calls.{Clear, Add}
 use Rattle.rules.proofs.Members.{both}
@@ -32,7 +32,10 @@ use Rattle.message_format.proofs.Worked.{computing as reading}
 use Rattle.stream_format.specs.Streams.{is-kind, body-size, to-read, to-step-over, header-read, next-byte, unless-ended, completed, byte-taken, chunk-taken}
 use Rattle.stream_format.specs.Kept.{ended-word, read-word, left-word, is-ended, ended-number, is-body, stage-of, words-of, inside-record, end-number, end-stream}
 use Rattle.import_format.specs.Routes.{entries-count, entries-from, entry-attributes, after-entry, entry-starts, entries-to, entries, entry-good, ends-well, record-good, entry-hop, chosen-hop, route-hop, record-calls}
-use Rattle.import_format.specs.Importing.{counts-more, record-imported, importing, counts-of, counts-words, counts-high, chunk-refusal, Imported as Lent, imported, stage-number, lent-back, taken-up, import-chunk}
+use Rattle.stream_format.specs.Chunks.{record-done, record-over, doing, chunk-refusal, Chunked, chunked, stage-number, lent-back, taken-up, take-chunk}
+use Rattle.import_format.specs.Importing.{counts-more, importing, counts-of, counts-words, counts-high, import-chunk}
+use Rattle.replay_format.specs.Messages.{as-size, family-from, addresses-from, message-from, message-of, is-ipv4, is-update, too-short, holds-update, record-bad, is-applied, record-calls as day-calls}
+use Rattle.replay_format.specs.Replaying.{refused-under, tally-more, tally-of, tally-words, tally-high, replaying, replay-chunk}
 use Rattle.promises.specs.History.{stored-by, History, Stop, Then}
 use Rattle.promises.specs.Demands.{Finds, SaysNone, Words, answer-at, paper}
 use Rattle.promises.proofs.Showing.{sevens, showing}
@@ -42,11 +45,15 @@ use Rattle.promises.proofs.Premises.{U}
 use Rattle.promises.proofs.Promises.{finds-longest, says-none}
 use Rattle.message_promises.specs.Heard.{heard-calls}
 use Rattle.message_promises.proofs.Premises.{message, hops, calls}
-use Rattle.import_promises.specs.Dumps.{record-noted, noting, chunk-records, calls-of, untaken, imported-records, imported-calls, next-chunk, Imports}
+use Rattle.stream_promises.specs.Noted.{record-noted, noting, chunk-records, calls-of, untaken, taken-records, taken-calls, next-chunk}
+use Rattle.import_promises.specs.Dumps.{Imports}
+use Rattle.replay_promises.specs.Days.{Replays}
 use Rattle.caller_promises.proofs.Contracts.{Called, ClearCalled, AddCalled, Looked, LookupCalled, looked-given, looked-word, ListCalled, LookupListCalled, place-looked}
 use Rattle.caller_promises.proofs.Messages.{MessageCalled, ApplyMessageCalled}
-use Rattle.caller_promises.proofs.Imports.{ImportCalled, ImportChunkCalled, EndCalled, EndStreamCalled, NoneLeft, Next, called-imports}
-use Rattle.caller_promises.proofs.Callers.{Single, Addresses, Heard, Imported, served-history, served-stores}
+use Rattle.caller_promises.proofs.Streams.{EndCalled, EndStreamCalled, NoneLeft, Next}
+use Rattle.caller_promises.proofs.Imports.{ImportCalled, ImportChunkCalled, called-imports}
+use Rattle.caller_promises.proofs.Replays.{ReplayCalled, ReplayChunkCalled, called-replays}
+use Rattle.caller_promises.proofs.Callers.{Single, Addresses, Heard, Imported, Replayed, served-history, served-stores}
 
 -- T's settings with this list of D
 abbrev with-list : (d : List ℕ) → Settings
@@ -194,7 +201,7 @@ message-found = finds-longest message-served (ip 10 2 2 3) (lit< tt) (route (ip 
 
 -- to unfold this is to unfold all that a chunk computes with
 unfoldable pub filling : ℕ
-unfolding fed is-kind body-size to-read to-step-over header-read next-byte unless-ended completed byte-taken chunk-taken ended-word read-word left-word is-ended ended-number is-body stage-of words-of entries-count entries-from entry-attributes after-entry entry-starts entries-to entries entry-good ends-well record-good entry-hop chosen-hop route-hop record-calls counts-more record-imported importing counts-of counts-words counts-high chunk-refusal stage-number lent-back taken-up import-chunk record-noted noting chunk-records calls-of untaken imported-records imported-calls next-chunk reading showing
+unfolding fed is-kind body-size to-read to-step-over header-read next-byte unless-ended completed byte-taken chunk-taken ended-word read-word left-word is-ended ended-number is-body stage-of words-of entries-count entries-from entry-attributes after-entry entry-starts entries-to entries entry-good ends-well record-good entry-hop chosen-hop route-hop record-calls counts-more record-done record-over doing importing counts-of counts-words counts-high chunk-refusal stage-number lent-back taken-up take-chunk import-chunk record-noted noting chunk-records calls-of untaken taken-records taken-calls next-chunk reading showing
 filling = 0
 
 -- a header of 12 bytes, and a body of 23 with 10/8 and one entry, whose NEXT_HOP is 192.0.2.1
@@ -205,18 +212,18 @@ dump =
     ∷ 0 ∷ 0 ∷ 0 ∷ 0 ∷ 0 ∷ 0 ∷ 0 ∷ 7 ∷ 64 ∷ 3 ∷ 4 ∷ 192 ∷ 0 ∷ 2 ∷ 1 ∷ []
 
 -- what is lent to the first chunk: nothing is counted, and the words begin a stream
-abbrev pub begun : Memory → Lent
-begun m = imported 0 (replicate 3 0) (replicate 3 0) (replicate 65548 0) (m .counters) (m .slots)
+abbrev pub begun : Memory → Chunked
+begun m = chunked 0 (replicate 3 0) (replicate 3 0) (replicate 65548 0) (m .counters) (m .slots)
 
-abbrev filled : Lent
-filled = next-chunk U hops (begun empty-U) dump
+abbrev filled : Chunked
+filled = next-chunk U (importing hops) (begun empty-U) dump
 
 pub zeros-bytes : (n : ℕ) → areBytes (replicate n 0) ≡ true
 zeros-bytes zero = refl
 zeros-bytes (suc n) = zeros-bytes n
 
 import-called : ImportCalled U hops (begun empty-U) dump filled
-unfolding next-chunk showing
+unfolding next-chunk import-chunk showing
 import-called = ImportChunkCalled ([], ([], ([], ([], ([], ([], ([], tt)))))))
     (U, (lending (empty-U .counters), (lending (empty-U .slots), (lending hops, (lending (replicate 3 0), (lending (replicate 3 0), (lending (replicate 65548 0), (lending dump, tt)))))))) (filled .number)
     (U, (lending (filled .memory .counters), (lending (filled .memory .slots), (lending hops, (lending (filled .counts), (lending (filled .words), (lending (filled .room), (lending dump, tt))))))))
@@ -244,3 +251,46 @@ chunks-met = called-imports (Next import-called refl NoneLeft)
 end-called : EndCalled (filled .words) 0 (1 ∷ 0 ∷ 0 ∷ [])
 unfolding end-stream end-number inside-record filling
 end-called = EndStreamCalled ([], tt) (lending (filled .words), tt) 0 (lending (1 ∷ 0 ∷ 0 ∷ []), tt) refl
+
+-- ---- A day of one record, in one chunk
+
+-- to unfold this is to unfold all that a chunk of a day computes with
+unfoldable pub running : ℕ
+unfolding any count as-size family-from addresses-from message-from message-of is-ipv4 is-update too-short holds-update record-bad is-applied day-calls refused-under tally-more tally-of tally-words tally-high replaying replay-chunk filling
+running = 0
+
+-- a header of 12 bytes, and a body of 54 with the message above: AS numbers of four bytes, IPv4, and two addresses
+abbrev pub day : List ℕ
+day =
+    0 ∷ 0 ∷ 0 ∷ 0 ∷ 0 ∷ 16 ∷ 0 ∷ 4 ∷ 0 ∷ 0 ∷ 0 ∷ 54
+    ∷ 0 ∷ 0 ∷ 0 ∷ 1 ∷ 0 ∷ 0 ∷ 0 ∷ 2 ∷ 0 ∷ 0 ∷ 0 ∷ 1
+    ∷ 192 ∷ 0 ∷ 2 ∷ 1 ∷ 192 ∷ 0 ∷ 2 ∷ 2 ∷ message
+
+-- what is lent to the first chunk: nothing is tallied, and the words begin a stream
+abbrev pub day-begun : Memory → Chunked
+day-begun m = chunked 0 (replicate 23 0) (replicate 3 0) (replicate 65548 0) (m .counters) (m .slots)
+
+abbrev run-over : Chunked
+run-over = next-chunk U (replaying hops) (day-begun empty-U) day
+
+replay-called : ReplayCalled U hops (day-begun empty-U) day run-over
+unfolding next-chunk replay-chunk showing
+replay-called = ReplayChunkCalled ([], ([], ([], ([], ([], ([], ([], tt)))))))
+    (U, (lending (empty-U .counters), (lending (empty-U .slots), (lending hops, (lending (replicate 23 0), (lending (replicate 3 0), (lending (replicate 65548 0), (lending day, tt)))))))) (run-over .number)
+    (U, (lending (run-over .memory .counters), (lending (run-over .memory .slots), (lending hops, (lending (run-over .counts), (lending (run-over .words), (lending (run-over .room), (lending day, tt))))))))
+    (settings-good (U .d) refl refl, ((lit< tt, lit< tt), ((lit< tt, lit< tt), ((lit< tt, lit< tt), (refl, (refl, (refl, ((lit< tt, lit< tt), tt)))))))) (zeros-bytes 65548) refl refl
+
+-- the two calls of its message: the first is refused, and the second accepted
+replay-served : History U calls (7 ∷ 0 ∷ []) (run-over .memory)
+unfolding running
+replay-served = served-history clear-called-U (Then (Replayed replay-called) Stop)
+
+-- one record seen, one UPDATE applied, one route accepted, and one refused under 7
+tally-met : run-over .counts ≡ 1 ∷ 1 ∷ 1 ∷ replicate 7 0 ++ 1 ∷ replicate 12 0
+unfolding running
+tally-met = refl
+
+-- the chunk was taken
+days-met : Replays U hops (day-begun empty-U) (day ∷ []) run-over
+unfolding running
+days-met = called-replays (Next replay-called refl NoneLeft)

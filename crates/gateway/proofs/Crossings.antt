@@ -1,5 +1,5 @@
 -- From what a call ensures to what crosses to C: one law for every update, one for what is lent to be written alone, and one
--- each for a message, a chunk of a dump and the end of a stream.
+-- each for a message, a chunk and the end of a stream.
 use Prim.Native.Nat.{ℕ, _*_, _^_}
 use mathlib.Core.Path.{_≡_, refl}
 use mathlib.Core.List.{List}
@@ -7,9 +7,9 @@ use Rattle.rules.specs.Table.{Outcome, left, Listed, answered}
 use Rattle.message_format.specs.declared.Report.{Report}
 use Rattle.message_format.specs.Reading.{Read, reported, report-number}
 use Rattle.stream_format.specs.Kept.{End, ended-as}
-use Rattle.import_format.specs.Importing.{Imported, imported}
+use Rattle.stream_format.specs.Chunks.{Chunked, chunked}
 use Rattle.c_numbers.specs.Fitting.{RefusalFits, CountsFit}
-use Rattle.gateway.specs.Crossing.{Crossed, ListCrossed, MessageCrossed, ImportCrossed, EndCrossed}
+use Rattle.gateway.specs.Crossing.{Crossed, ListCrossed, MessageCrossed, ChunkCrossed, EndCrossed}
 
 module _ {u : Outcome} {refusal : ℕ} {counters slots : List ℕ} (ensured : u ≡ left refusal counters slots) where
   pub fits-above : RefusalFits (u .refusal) → RefusalFits refusal
@@ -32,12 +32,12 @@ module _ {u : Read} {report : Report} {counters slots : List ℕ} (ensured : u �
   pub message-crossed : {answer : ℕ} → answer ≡ report-number report → MessageCrossed u answer counters slots
   message-crossed number = rw ensured (record { number = number; memory = refl })
 
-module _ {u : Imported} {number : ℕ} {counts words room counters slots : List ℕ} (ensured : u ≡ imported number counts words room counters slots) where
-  pub import-fits-above : RefusalFits (u .number) → RefusalFits number
-  import-fits-above fits = rw ensured at fits
+module _ {u : Chunked} {number : ℕ} {counts words room counters slots : List ℕ} (ensured : u ≡ chunked number counts words room counters slots) where
+  pub chunk-fits-above : RefusalFits (u .number) → RefusalFits number
+  chunk-fits-above fits = rw ensured at fits
 
-  pub import-crossed : {answer : ℕ} → answer ≡ number * 2 ^ 48 → ImportCrossed u answer counts words room counters slots
-  import-crossed given = rw ensured (record { number = given; leaves = refl })
+  pub chunk-crossed : {answer : ℕ} → answer ≡ number * 2 ^ 48 → ChunkCrossed u answer counts words room counters slots
+  chunk-crossed given = rw ensured (record { number = given; leaves = refl })
 
 module _ {u : End} {number : ℕ} {words : List ℕ} (ensured : u ≡ ended-as number words) where
   pub end-fits-above : RefusalFits (u .number) → RefusalFits number

@@ -7,8 +7,8 @@ use contract.Lifetimes.{Lfts}
 use denote.Ref.{now}
 use Rattle.rules.specs.Table.{Memory, Outcome}
 use Rattle.stream_format.specs.Kept.{End}
-use Rattle.import_format.specs.Importing.{Imported}
-use Rattle.gateway.specs.Crossing.{Crossed}
+use Rattle.stream_format.specs.Chunks.{Chunked}
+use Rattle.gateway.specs.Crossing.{Crossed, ChunkCrossed}
 use Rattle.gateway.proofs.Arguments.{past}
 use Rattle.gateway.proofs.gateway_clear.Reads as clear
 use Rattle.gateway.proofs.gateway_add.Reads as add
@@ -20,6 +20,7 @@ use Rattle.gateway.proofs.gateway_lookup_list.Reads as lookup-list
 use Rattle.gateway.proofs.gateway_update.Reads as update
 use Rattle.gateway.proofs.gateway_write_withdrawal.Reads as write-withdrawal
 use Rattle.gateway.proofs.gateway_import.Reads as import
+use Rattle.gateway.proofs.gateway_replay.Reads as replay
 use Rattle.gateway.proofs.gateway_end_stream.Reads as end-stream
 
 -- the two lists that an update leaves stand after the settings
@@ -66,18 +67,28 @@ pub write-withdrawal-determined : (κs : Lfts 1) (a : _) (r q : _) (s e : _) →
 write-withdrawal-determined κs a r q s e one other = (one .number ∙ sym (other .number), one .results ∙ sym (other .results))
 
 -- a chunk leaves counters and slots, and after the next hops the counts, the words and the room
+chunks-alike : (u : Chunked) {r q : ℕ} {counts words room counters slots counts' words' room' counters' slots' : List ℕ}
+    → ChunkCrossed u r counts words room counters slots → ChunkCrossed u q counts' words' room' counters' slots'
+    → (r ≡ q) × (counters ≡ counters') × (slots ≡ slots') × (counts ≡ counts') × (words ≡ words') × (room ≡ room')
+chunks-alike u one other =
+    let same = one .leaves ∙ sym (other .leaves) in (
+      one .number ∙ sym (other .number),
+      ap (λ (u : Chunked). u .memory .counters) same,
+      ap (λ (u : Chunked). u .memory .slots) same,
+      ap (λ (u : Chunked). u .counts) same,
+      ap (λ (u : Chunked). u .words) same,
+      ap (λ (u : Chunked). u .room) same,
+    )
+
 pub import-determined : (κs : Lfts 8) (a : _) (r q : _) (s e : _) → import.Post κs a r s → import.Post κs a q e
     → (r ≡ q) × (now (past s .0) ≡ now (past e .0)) × (now (past s .1 .0) ≡ now (past e .1 .0))
     × (now (past s .1 .1 .1 .0) ≡ now (past e .1 .1 .1 .0)) × (now (past s .1 .1 .1 .1 .0) ≡ now (past e .1 .1 .1 .1 .0)) × (now (past s .1 .1 .1 .1 .1 .0) ≡ now (past e .1 .1 .1 .1 .1 .0))
-import-determined κs a r q s e one other =
-    let same = one .leaves ∙ sym (other .leaves) in (
-      one .number ∙ sym (other .number),
-      ap (λ (u : Imported). u .memory .counters) same,
-      ap (λ (u : Imported). u .memory .slots) same,
-      ap (λ (u : Imported). u .counts) same,
-      ap (λ (u : Imported). u .words) same,
-      ap (λ (u : Imported). u .room) same,
-    )
+import-determined κs a r q s e one other = chunks-alike _ one other
+
+pub replay-determined : (κs : Lfts 8) (a : _) (r q : _) (s e : _) → replay.Post κs a r s → replay.Post κs a q e
+    → (r ≡ q) × (now (past s .0) ≡ now (past e .0)) × (now (past s .1 .0) ≡ now (past e .1 .0))
+    × (now (past s .1 .1 .1 .0) ≡ now (past e .1 .1 .1 .0)) × (now (past s .1 .1 .1 .1 .0) ≡ now (past e .1 .1 .1 .1 .0)) × (now (past s .1 .1 .1 .1 .1 .0) ≡ now (past e .1 .1 .1 .1 .1 .0))
+replay-determined κs a r q s e one other = chunks-alike _ one other
 
 pub end-stream-determined : (κs : Lfts 1) (a : _) (r q : _) (s e : _) → end-stream.Post κs a r s → end-stream.Post κs a q e → (r ≡ q) × (now (s .0) ≡ now (e .0))
 end-stream-determined κs a r q s e one other = (one .number ∙ sym (other .number), ap (λ (u : End). u .words) (one .leaves ∙ sym (other .leaves)))

@@ -1,4 +1,4 @@
-// The gateway table for C: eleven exported calls on numbers and lent memory. No call requires anything,
+// The gateway table for C: twelve exported calls on numbers and lent memory. No call requires anything,
 // keeps anything or copies the memory. Questions read the slots as bytes, four to a word, the
 // low byte first; the updates write them as words of the machine. What a C program may rely on is
 // proved in crates/c_promises.
@@ -8,13 +8,16 @@ ghost use Rattle.message_format.specs.Reading.{apply-message};
 ghost use Rattle.message_format.specs.Writing.{write-withdrawal};
 ghost use Rattle.stream_format.specs.Kept.{end-stream};
 ghost use Rattle.import_format.specs.Importing.{import-chunk};
+ghost use Rattle.replay_format.specs.Replaying.{replay-chunk};
 ghost use Rattle.c_calls.specs.Lent.{settings-of};
-ghost use Rattle.gateway.specs.Crossing.{Crossed, ListCrossed, MessageCrossed, ImportCrossed, EndCrossed};
+ghost use Rattle.gateway.specs.Crossing.{Crossed, ListCrossed, MessageCrossed, ChunkCrossed, EndCrossed};
 use c_calls::settings_of;
 use c_numbers::number_of_answer;
 use c_numbers::number_of_report;
 use c_numbers::number_of_vector;
 use c_numbers::refusal_part;
+use import_calls::import_chunk;
+use replay_calls::replay_chunk;
 
 // Empties the table: zero in every byte and word.
 #[no_mangle]
@@ -210,19 +213,35 @@ pub extern "C" fn gateway_import(
     room: &mut [u8; 65548],
     chunk: &[u8],
 ) -> u64
-    ensures { λ r. ⌜ ImportCrossed (import-chunk (settings-of k (now (d .entry)) e s a b c) (lent (now (counters .entry)) (now (slots .entry))) (now (hops .entry)) (now (counts .entry)) (now (words .entry)) (now (room .entry)) (now (chunk .entry))) r (now (counts .exit)) (now (words .exit)) (now (room .exit)) (now (counters .exit)) (now (slots .exit)) ⌝ }
+    ensures { λ r. ⌜ ChunkCrossed (import-chunk (settings-of k (now (d .entry)) e s a b c) (lent (now (counters .entry)) (now (slots .entry))) (now (hops .entry)) (now (counts .entry)) (now (words .entry)) (now (room .entry)) (now (chunk .entry))) r (now (counts .exit)) (now (words .exit)) (now (room .exit)) (now (counters .exit)) (now (slots .exit)) ⌝ }
 {
     let settings = settings_of(k, d, e, s, a, b, c);
-    refusal_part(import_calls::import_chunk(
-        settings,
-        counters,
-        slots,
-        hops,
-        counts,
-        words,
-        room,
-        chunk,
-    ))
+    refusal_part(import_chunk(settings, counters, slots, hops, counts, words, room, chunk))
+}
+
+// Takes one chunk of a recorded day. The tally is 23 words: records seen, UPDATEs applied, routes accepted, and
+// routes refused under each number from 0 to 19.
+#[no_mangle]
+pub extern "C" fn gateway_replay(
+    k: u32,
+    d: &[u8],
+    e: u32,
+    s: u32,
+    a: u32,
+    b: u32,
+    c: u32,
+    counters: &mut [u8],
+    slots: &mut [u32],
+    hops: &[u32],
+    tally: &mut [u32; 23],
+    words: &mut [u32; 3],
+    room: &mut [u8; 65548],
+    chunk: &[u8],
+) -> u64
+    ensures { λ r. ⌜ ChunkCrossed (replay-chunk (settings-of k (now (d .entry)) e s a b c) (lent (now (counters .entry)) (now (slots .entry))) (now (hops .entry)) (now (tally .entry)) (now (words .entry)) (now (room .entry)) (now (chunk .entry))) r (now (tally .exit)) (now (words .exit)) (now (room .exit)) (now (counters .exit)) (now (slots .exit)) ⌝ }
+{
+    let settings = settings_of(k, d, e, s, a, b, c);
+    refusal_part(replay_chunk(settings, counters, slots, hops, tally, words, room, chunk))
 }
 
 // Ends a stream of records: 17 inside a record.

@@ -1,6 +1,4 @@
--- The laws of one record, of a chunk while it is taken, and of a whole chunk.
+-- The laws of one record, and what the contract determines.
 pub mod Counts
 pub mod Determined
-pub mod Going
 pub mod Routes
-pub mod Whole

@@ -5,18 +5,21 @@ ghost use mathlib.Core.Path.{_≡_};
 ghost use mathlib.Core.Bool.{true};
 ghost use mathlib.Core.List.{[], _∷_};
 ghost use lib.ListN.{length, take};
-ghost use Rattle.rules.specs.Table.{lent, refuse, in-range};
+ghost use Rattle.rules.specs.Table.{lent, in-range};
 ghost use Rattle.rules.specs.Ready.{Counters, Slots};
 ghost use Rattle.stream_format.specs.Streams.{stream, chunk-taken};
+ghost use Rattle.stream_format.specs.Chunks.{record-done, doing, chunked};
 ghost use Rattle.stream_records.specs.Runs.{Sound};
+ghost use Rattle.stream_chunks.specs.Work.{work};
 ghost use Rattle.import_format.specs.Routes.{dump-kind};
-ghost use Rattle.import_format.specs.Importing.{counts-more, counts-high, counts-of, counts-words, record-imported, importing, chunk-refusal, stage-number, imported, import-chunk};
-ghost use Rattle.import_calls.specs.Chunks.{filling, Low, step-done, taken-to, too-much};
+ghost use Rattle.import_format.specs.Importing.{counts-more, counts-high, counts-of, counts-words, importing, import-chunk};
+ghost use Rattle.import_calls.specs.Chunks.{Low, step-done, taken-to};
 use import_format::ImportCounts;
 use import_readers::RecordRead;
 use import_readers::read_record;
 use rules::Settings;
-use settings::refuse_memory;
+use stream_chunks::number_of;
+use stream_chunks::refuse_chunk;
 use stream_format::Event;
 use stream_format::Kind;
 use stream_format::Stage;
@@ -44,6 +47,7 @@ fn dump_kind() -> Kind
     Kind {
         number: 13,
         subtype: 2,
+        also: 2,
     }
 }
 
@@ -94,7 +98,7 @@ fn import_record(
     requires { ⌜ Slots settings (now slots) ⌝ }
     requires { ⌜ size ≤ length (now room) ⌝ }
     requires { ⌜ Low earlier 65536 ⌝ }
-    ensures { λ r. ⌜ record-imported settings (now (hops .entry)) (filling earlier (now (counters .entry)) (now (slots .entry))) (take size (now (room .entry))) ≡ step-done earlier r (now (counters .exit)) (now (slots .exit)) ⌝ }
+    ensures { λ r. ⌜ record-done settings (importing (now (hops .entry))) (work earlier (now (counters .entry)) (now (slots .entry))) (take size (now (room .entry))) ≡ step-done earlier r (now (counters .exit)) (now (slots .exit)) ⌝ }
 {
     match read_record(&room[..size], hops) {
         RecordRead::Route {
@@ -127,7 +131,7 @@ fn take_chunk(
     requires { ⌜ Low earlier 0 ⌝ }
     requires { ⌜ Sound begun ⌝ }
     requires { ⌜ length (now chunk) ≤ 65536 ⌝ }
-    ensures { λ r. ⌜ chunk-taken dump-kind (importing settings (now (hops .entry))) (stream begun (now (room .entry)) (filling earlier (now (counters .entry)) (now (slots .entry)))) (now (chunk .entry)) ≡ taken-to r (now (room .exit)) (now (counters .exit)) (now (slots .exit)) ⌝ }
+    ensures { λ r. ⌜ chunk-taken dump-kind (doing settings (importing (now (hops .entry)))) (stream begun (now (room .entry)) (work earlier (now (counters .entry)) (now (slots .entry)))) (now (chunk .entry)) ≡ taken-to r (now (room .exit)) (now (counters .exit)) (now (slots .exit)) ⌝ }
     ensures { λ r. ⌜ Sound (r .stage) ⌝ }
 {
     let mut stage = begun;
@@ -191,49 +195,6 @@ fn counts_high(counts: ImportCounts) -> bool
     counts.hopless > 4000000000
 }
 
-// 19 for a chunk above 65,536 bytes or a count that is too high, or 0.
-fn refuse_size(counts: ImportCounts, chunk: &[u8]) -> u32
-    ensures { λ r. ⌜ r ≡ refuse (too-much counts (now (chunk .entry))) 19 0 ⌝ }
-{
-    if chunk.len() > 65536 {
-        return 19;
-    }
-    if counts_high(counts) {
-        return 19;
-    }
-    0
-}
-
-// 19, 1 or 2, or 0 where the chunk can be taken.
-fn refuse_chunk(
-    settings: Settings,
-    counters: &[u8],
-    slots: &[u32],
-    counts: ImportCounts,
-    chunk: &[u8],
-) -> u32
-    ensures { λ r. ⌜ r ≡ chunk-refusal settings (lent (now (counters .entry)) (now (slots .entry))) counts (now (chunk .entry)) ⌝ }
-{
-    let size = refuse_size(counts, chunk);
-    let memory = refuse_memory(settings, counters, slots);
-    if size != 0 {
-        return size;
-    }
-    memory
-}
-
-// The number that a stage gives back: the one that ended the stream, or 0.
-fn number_of(stage: Stage) -> u32
-    ensures { λ r. ⌜ r ≡ stage-number stage ⌝ }
-{
-    match stage {
-        Stage::Header { read: _ } => 0,
-        Stage::Body { read: _, left: _ } => 0,
-        Stage::Over { left: _ } => 0,
-        Stage::Ended { number } => number,
-    }
-}
-
 // Takes one chunk of a dump: the number that ended the import, or the refusal of the chunk, or 0.
 pub fn import_chunk(
     settings: Settings,
@@ -245,13 +206,14 @@ pub fn import_chunk(
     room: &mut [u8; 65548],
     chunk: &[u8],
 ) -> u32
-    ensures { λ r. ⌜ import-chunk settings (lent (now (counters .entry)) (now (slots .entry))) (now (hops .entry)) (now (counts .entry)) (now (words .entry)) (now (room .entry)) (now (chunk .entry)) ≡ imported r (now (counts .exit)) (now (words .exit)) (now (room .exit)) (now (counters .exit)) (now (slots .exit)) ⌝ }
+    ensures { λ r. ⌜ import-chunk settings (lent (now (counters .entry)) (now (slots .entry))) (now (hops .entry)) (now (counts .entry)) (now (words .entry)) (now (room .entry)) (now (chunk .entry)) ≡ chunked r (now (counts .exit)) (now (words .exit)) (now (room .exit)) (now (counters .exit)) (now (slots .exit)) ⌝ }
 {
     let ended = words[0];
     let begun = stage_of(dump_kind(), words, room);
     let number = number_of(begun);
     let earlier = counts_of(counts);
-    let refusal = refuse_chunk(settings, counters, slots, earlier, chunk);
+    let high = counts_high(earlier);
+    let refusal = refuse_chunk(settings, counters, slots, high, chunk);
     if ended != 0 {
         return number;
     }

@@ -13,8 +13,9 @@ use Rattle.message_format.specs.Format.{prefix-from}
 use Rattle.message_format.proofs.Worked.{computing as messages-computing}
 use Rattle.stream_format.specs.Streams.{is-kind, body-size, to-read, to-step-over, header-read, next-byte, unless-ended, completed, byte-taken, chunk-taken}
 use Rattle.stream_format.specs.Kept.{ended-word, read-word, left-word, is-ended, ended-number, is-body, stage-of, words-of, inside-record, end-number, end-stream}
+use Rattle.stream_format.specs.Chunks.{record-done, record-over, doing, chunk-refusal, Chunked, stage-number, lent-back, taken-up, as-it-was, take-chunk}
 use Rattle.import_format.specs.Routes.{dump-kind, route-from, entries-count, entries-from, entry-attributes, after-entry, entry-starts, entries-to, entries, entry-good, ends-well, record-good, entry-hop, chosen-hop, route-hop, record-calls}
-use Rattle.import_format.specs.Importing.{counts-more, record-imported, importing, counts-of, counts-words, counts-high, chunk-refusal, Imported, stage-number, lent-back, taken-up, as-it-was, import-chunk}
+use Rattle.import_format.specs.Importing.{counts-more, importing, counts-of, counts-words, counts-high, import-chunk}
 
 -- ---- What the cases are written in
 
@@ -76,23 +77,23 @@ abbrev room : List ℕ
 room = replicate 100 0
 
 -- a chunk that begins a stream, on a cleared table
-abbrev begun : (chunk : List ℕ) → Imported
+abbrev begun : (chunk : List ℕ) → Chunked
 begun chunk = import-chunk T (empty T) hops (three 0 0 0) (three 0 0 0) room chunk
 
 -- a chunk after another
-abbrev then : Imported → (chunk : List ℕ) → Imported
+abbrev then : Chunked → (chunk : List ℕ) → Chunked
 then i chunk = import-chunk T (i .memory) hops (i .counts) (i .words) (i .room) chunk
 
 -- the end after it
-abbrev ended : Imported → Imported
+abbrev ended : Chunked → Chunked
 ended i = as-it-was (end-stream (i .words) .number) (i .memory) (i .counts) (end-stream (i .words) .words) (i .room)
 
 -- what is given back, and the counts and words that are left
-abbrev numbers : Imported → List ℕ
+abbrev numbers : Chunked → List ℕ
 numbers i = i .number ∷ i .counts ++ i .words
 
 -- and all that is left beside them: the table, its counters first, and the room
-abbrev told : Imported → List ℕ
+abbrev told : Chunked → List ℕ
 told i = numbers i ++ i .memory .counters ++ i .memory .slots ++ i .room
 
 -- so it is with a number, counts, words, a table, and the room with these bytes at its front
@@ -204,18 +205,18 @@ kinds =
 -- ---- Chunks, and the end
 
 -- a record is begun: five bytes of its header have come, or all but its last byte
-abbrev five : Imported
+abbrev five : Chunked
 five = begun (take 5 sample)
 
-abbrev all-but-one : Imported
+abbrev all-but-one : Chunked
 all-but-one = begun (take 41 sample)
 
 -- the import has ended with 14
-abbrev too-long : Imported
+abbrev too-long : Chunked
 too-long = begun (header 13 2 (0 ∷ 1 ∷ 0 ∷ 1 ∷ []))
 
 -- the bytes one by one
-abbrev one-by-one : Imported → (bytes : List ℕ) → Imported
+abbrev one-by-one : Chunked → (bytes : List ℕ) → Chunked
 one-by-one i [] = i
 one-by-one i (b ∷ bytes) = one-by-one (then i (b ∷ [])) bytes
 
@@ -248,7 +249,7 @@ abbrev means : (a b c : ℕ) (front : List ℕ) → List ℕ
 means a b c front = words-of (stage-of dump-kind (three a b c) front)
 
 -- a call on words that no call leaves
-abbrev on : (a b c : ℕ) (chunk : List ℕ) → Imported
+abbrev on : (a b c : ℕ) (chunk : List ℕ) → Chunked
 on a b c chunk = import-chunk T (empty T) hops (three 0 0 0) (three a b c) room chunk
 
 words : List Case
@@ -276,7 +277,7 @@ abbrev few : Memory
 few = record { counters = sevens 511; slots = sevens 257 }
 
 -- a chunk on it
-abbrev over-511 : Settings → (counts : List ℕ) → Imported
+abbrev over-511 : Settings → (counts : List ℕ) → Chunked
 over-511 t counts = import-chunk t few hops counts (three 0 0 0) room sample
 
 untaken : List Case
@@ -288,7 +289,7 @@ untaken =
     ∷ case (numbers (import-chunk T (empty T) hops (replicate 3 4000000000) (three 0 0 0) room sample)) (0 ∷ three 4000000001 4000000000 4000000000 ++ three 0 0 0)
     -- I32: a chunk of 65,537 bytes, and not one of 65,536
     ∷ not-taken 19 (three 0 0 0) (three 0 0 0) (replicate 65537 0)
-    ∷ case (chunk-refusal T (empty T) (counts-of (three 0 0 0)) (replicate 65536 0) ∷ []) (0 ∷ [])
+    ∷ case (chunk-refusal T (empty T) (counts-high (counts-of (three 0 0 0))) (replicate 65536 0) ∷ []) (0 ∷ [])
     -- I33: the end goes before 19, 19 before 1, and 1 before 2
     ∷ not-taken 14 (three 4000000001 0 0) (three 15 0 0) sample
     ∷ case (told (over-511 (settings 9 4 1 2 1 2 1) (three 4000000001 0 0))) (leaves 19 (three 4000000001 0 0) (three 0 0 0) few [])
@@ -298,7 +299,7 @@ untaken =
 
 -- to unfold this is to unfold all that an import computes with
 unfoldable pub computing : ℕ
-unfolding fed is-kind body-size to-read to-step-over header-read next-byte unless-ended completed byte-taken chunk-taken ended-word read-word left-word is-ended ended-number is-body stage-of words-of inside-record end-number end-stream entries-count entries-from entry-attributes after-entry entry-starts entries-to entries entry-good ends-well record-good entry-hop chosen-hop route-hop record-calls counts-more record-imported importing counts-of counts-words counts-high chunk-refusal stage-number lent-back taken-up import-chunk messages-computing
+unfolding fed is-kind body-size to-read to-step-over header-read next-byte unless-ended completed byte-taken chunk-taken ended-word read-word left-word is-ended ended-number is-body stage-of words-of inside-record end-number end-stream entries-count entries-from entry-attributes after-entry entry-starts entries-to entries entry-good ends-well record-good entry-hop chosen-hop route-hop record-calls counts-more record-done record-over doing importing counts-of counts-words counts-high chunk-refusal stage-number lent-back taken-up take-chunk import-chunk messages-computing
 computing = 0
 
 all-come-out : come-out (records ++ faults ++ kinds ++ chunks ++ words ++ untaken) ≡ true

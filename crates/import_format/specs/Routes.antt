@@ -14,7 +14,7 @@ use Rattle.stream_format.specs.declared.Kind.{Kind}
 
 -- type 13 and subtype 2
 abbrev pub dump-kind : Kind
-dump-kind = record { number = 13; subtype = 2 }
+dump-kind = record { number = 13; subtype = 2; also = 2 }
 
 -- ---- Prefix and entries
 

@@ -1,9 +1,8 @@
--- What is promised of an import after any history (Promises), that it does not matter how a dump is cut (Cuts), demand 1 of a
--- chunk and of the end (Refused), and worked dumps that meet the premises (Premises). Below them is what carries them: a chunk
--- is its single calls (Singles), and the three ways that a chunk can go (Ways).
+-- What is promised of an import after any history (Promises), that it does not matter how a dump is cut (Cuts), and worked dumps
+-- that meet the premises (Premises). A chunk is its single calls (Singles). All of it, and demand 1, is what
+-- crates/stream_promises says of a stream, since the records of a dump keep its laws (Laws).
 pub mod Promises
 pub mod Cuts
-pub mod Refused
 pub mod Premises
 pub mod Singles
-pub mod Ways
+pub mod Laws

@@ -15,9 +15,10 @@ use Rattle.rules.proofs.Worked.{ip, T}
 use Rattle.message_format.proofs.Worked.{computing as reading}
 use Rattle.stream_format.specs.Streams.{is-kind, body-size, to-read, to-step-over, header-read, next-byte, unless-ended, completed, byte-taken, chunk-taken}
 use Rattle.stream_format.specs.Kept.{ended-word, read-word, left-word, is-ended, ended-number, is-body, stage-of, words-of, inside-record, end-number, end-stream}
+use Rattle.stream_format.specs.Chunks.{record-done, record-over, doing, chunk-refusal, Chunked, stage-number, lent-back, taken-up, as-it-was, take-chunk}
 use Rattle.stream_format.proofs.Ends.{inside}
-use Rattle.import_format.specs.Routes.{entries-count, entries-from, entry-attributes, after-entry, entry-starts, entries-to, entries, entry-good, ends-well, record-good, entry-hop, chosen-hop, route-hop, record-calls}
-use Rattle.import_format.specs.Importing.{counts-more, record-imported, importing, counts-of, counts-words, counts-high, chunk-refusal, Imported, stage-number, lent-back, taken-up, as-it-was, import-chunk}
+use Rattle.import_format.specs.Routes.{dump-kind, entries-count, entries-from, entry-attributes, after-entry, entry-starts, entries-to, entries, entry-good, ends-well, record-good, entry-hop, chosen-hop, route-hop, record-calls}
+use Rattle.import_format.specs.Importing.{counts-more, counts-of, counts-words, counts-high, importing, import-chunk}
 use Rattle.promises.specs.History.{Route, on-paper, stored-by, History}
 use Rattle.promises.specs.Demands.{some-below, Finds, First, Nothing, paper, adds}
 use Rattle.promises.proofs.Showing.{sevens, showing}
@@ -26,14 +27,16 @@ use Rattle.promises.proofs.Histories.{made, history-of}
 use Rattle.promises.proofs.Matches.{right}
 use Rattle.promises.proofs.Paper.{route}
 use Rattle.promises.proofs.Promises.{finds-longest}
-use Rattle.import_promises.specs.Dumps.{record-noted, noting, chunk-records, calls-of, hopless-of, untaken, imported-records, imported-calls, over-limit, next-chunk, Imports, NoMore, Chunk, SameImport, SameGiven}
+use Rattle.stream_promises.specs.Noted.{record-noted, noting, chunk-records, calls-of, untaken, taken-records, taken-calls, some-high, over-limit, next-chunk, NoMore, Chunk, SameStream, SameGiven}
+use Rattle.stream_promises.proofs.Refused.{ended-unchanged, refused-unchanged, goes-on, has-ended, end-numbers, end-stays}
+use Rattle.import_promises.specs.Dumps.{imported-records, imported-calls, hopless-of, Imports}
 use Rattle.import_promises.proofs.Cuts.{any-cut, any-cut-whole}
 use Rattle.import_promises.proofs.Promises.{import-refused, import-taken, import-history, import-numbers, import-accepts, import-hopless, same-imports}
-use Rattle.import_promises.proofs.Refused.{ended-unchanged, refused-unchanged, goes-on, has-ended, end-numbers, end-stays}
+use Rattle.import_promises.proofs.Laws.{lawful}
 
 -- to unfold this is to unfold all that an import computes with
 unfoldable dumping : ℕ
-unfolding fed is-kind body-size to-read to-step-over header-read next-byte unless-ended completed byte-taken chunk-taken ended-word read-word left-word is-ended ended-number is-body stage-of words-of inside-record end-number end-stream entries-count entries-from entry-attributes after-entry entry-starts entries-to entries entry-good ends-well record-good entry-hop chosen-hop route-hop record-calls counts-more record-imported importing counts-of counts-words counts-high chunk-refusal stage-number lent-back taken-up import-chunk record-noted noting chunk-records calls-of hopless-of untaken imported-records imported-calls over-limit next-chunk some-below paper adds reading showing
+unfolding fed is-kind body-size to-read to-step-over header-read next-byte unless-ended completed byte-taken chunk-taken ended-word read-word left-word is-ended ended-number is-body stage-of words-of inside-record end-number end-stream entries-count entries-from entry-attributes after-entry entry-starts entries-to entries entry-good ends-well record-good entry-hop chosen-hop route-hop record-calls record-done record-over doing chunk-refusal stage-number lent-back taken-up take-chunk counts-more counts-of counts-words counts-high importing import-chunk record-noted noting chunk-records calls-of untaken taken-records taken-calls some-high over-limit next-chunk hopless-of some-below paper adds reading showing
 dumping = 0
 
 -- two records: 10/8 with the hop of 192.0.2.1, and 11/8, which no neighbour announces
@@ -62,23 +65,23 @@ unfolding dumping
 its-calls = refl
 
 -- and the one record that is none
-its-hopless : hopless-of hops (imported-records zeros room dump 0) ≡ 1
+its-hopless : hopless-of hops (imported-records hops zeros room dump 0) ≡ 1
 unfolding dumping
 its-hopless = refl
 
 -- an import into a table newly cleared, on memory that held anything
-abbrev begin : Settings → (before : Memory) → Imported
+abbrev begin : Settings → (before : Memory) → Chunked
 begin t before = record { number = 0; counts = zeros; words = zeros; room = room; memory = act t Clear before .memory }
 
 -- what is computed under settings t: the dump as one chunk, cut within the first body, and with a body of no bytes
 record Worked (t : Settings) (before : Memory) : Type 0 where
   cleared : act t Clear before .refusal ≡ 0
   numbers : paper t [] calls .answers ≡ 0 ∷ []
-  whole : next-chunk t hops (begin t before) dump .number ≡ 0
-  first : next-chunk t hops (begin t before) (take 20 dump) .number ≡ 0
-  second : next-chunk t hops (next-chunk t hops (begin t before) (take 20 dump)) (drop 20 dump) .number ≡ 0
-  left : next-chunk t hops (begin t before) (take 20 dump) .words ≡ 0 ∷ 20 ∷ 15 ∷ []
-  ended : next-chunk t hops (begin t before) (take 11 dump ++ 0 ∷ []) .number ≡ 12
+  whole : next-chunk t (importing hops) (begin t before) dump .number ≡ 0
+  first : next-chunk t (importing hops) (begin t before) (take 20 dump) .number ≡ 0
+  second : next-chunk t (importing hops) (next-chunk t (importing hops) (begin t before) (take 20 dump)) (drop 20 dump) .number ≡ 0
+  left : next-chunk t (importing hops) (begin t before) (take 20 dump) .words ≡ 0 ∷ 20 ∷ 15 ∷ []
+  ended : next-chunk t (importing hops) (begin t before) (take 11 dump ++ 0 ∷ []) .number ≡ 12
 
 at-T : Worked T sevens
 unfolding dumping
@@ -92,7 +95,7 @@ module _ {t : Settings} {before : Memory} (worked : Worked t before) where
   abbrev empty : Memory
   empty = act t Clear before .memory
 
-  abbrev start : Imported
+  abbrev start : Chunked
   start = begin t before
 
   begun : History t [] [] empty
@@ -101,14 +104,14 @@ module _ {t : Settings} {before : Memory} (worked : Worked t before) where
 
   -- ---- Two cuttings
 
-  abbrev one : Imported
-  one = next-chunk t hops start dump
+  abbrev one : Chunked
+  one = next-chunk t (importing hops) start dump
 
-  abbrev half : Imported
-  half = next-chunk t hops start (take 20 dump)
+  abbrev half : Chunked
+  half = next-chunk t (importing hops) start (take 20 dump)
 
-  abbrev other : Imported
-  other = next-chunk t hops half (drop 20 dump)
+  abbrev other : Chunked
+  other = next-chunk t (importing hops) half (drop 20 dump)
 
   -- a chunk that is given 0 is taken
   with-0 : {number : ℕ} → number ≡ 0 → untaken number ≡ false
@@ -122,7 +125,7 @@ module _ {t : Settings} {before : Memory} (worked : Worked t before) where
   in-two = Chunk (with-0 (worked .first)) (Chunk (with-0 (worked .second)) NoMore)
 
   -- they come to the same
-  cut-met : SameImport one other
+  cut-met : SameStream (importing hops) one other
   unfolding input-of
   cut-met = any-cut t hops refl in-one in-two
 
@@ -141,8 +144,8 @@ module _ {t : Settings} {before : Memory} (worked : Worked t before) where
   high-met = import-refused begun hops high zeros room dump refl .1 refl
 
   unchanged-met : import-chunk t empty hops high zeros room dump ≡ as-it-was 19 empty high zeros room
-  unfolding untaken
-  unchanged-met = refused-unchanged t empty hops high zeros room dump (rw high-met) ∙ ap (λ number. as-it-was number empty high zeros room) high-met
+  unfolding import-chunk untaken
+  unchanged-met = refused-unchanged (lawful hops) t empty high zeros room dump (rw high-met) ∙ ap (λ number. as-it-was number empty high zeros room) high-met
 
   -- within it, it is taken, and the stream goes on
   taken-met : untaken (one .number) ≡ false
@@ -150,26 +153,27 @@ module _ {t : Settings} {before : Memory} (worked : Worked t before) where
   taken-met = import-taken begun hops zeros zeros room dump refl .1 refl
 
   goes-on-met : is-ended (one .words) ≡ false
-  unfolding next-chunk is-ended ended-word
-  goes-on-met = goes-on t empty hops zeros zeros room dump refl (worked .whole)
+  unfolding next-chunk import-chunk is-ended ended-word
+  goes-on-met = goes-on (lawful hops) t empty zeros zeros room dump refl (worked .whole)
 
   -- within a record the end gives 17, and then every chunk is given that
   end-met : end-stream (half .words) .number ≡ 17
   unfolding dumping inside
-  end-met = rw (worked .left) (end-numbers (0 ∷ 20 ∷ 15 ∷ []) refl room)
+  end-met = rw (worked .left) (end-numbers (0 ∷ 20 ∷ 15 ∷ []) refl dump-kind room)
 
   end-stays-met : import-chunk t empty hops zeros (end-stream (half .words) .words) room dump .number ≡ 17
-  end-stays-met = ap (λ i. i .number) (end-stays (half .words) t empty hops zeros room dump .0) ∙ end-met
+  unfolding import-chunk
+  end-stays-met = ap (λ i. i .number) (end-stays (half .words) (importing hops) t empty zeros room dump .0) ∙ end-met
 
   -- a record of no bytes ends the import with 12, and then every chunk is given that
-  abbrev bad : Imported
-  bad = next-chunk t hops start (take 11 dump ++ 0 ∷ [])
+  abbrev bad : Chunked
+  bad = next-chunk t (importing hops) start (take 11 dump ++ 0 ∷ [])
 
-  bad-met : next-chunk t hops bad dump .number ≡ 12
-  unfolding next-chunk untaken is-ended ended-word
+  bad-met : next-chunk t (importing hops) bad dump .number ≡ 12
+  unfolding next-chunk import-chunk untaken is-ended ended-word
   bad-met =
-      let over = has-ended t empty hops zeros zeros room (take 11 dump ++ 0 ∷ []) refl (rw (worked .ended)) (rw (worked .ended) (omega arith)) in
-      ap (λ i. i .number) (ended-unchanged t (bad .memory) hops (bad .counts) (bad .words) (bad .room) dump (over .0)) ∙ over .1 ∙ worked .ended
+      let over = has-ended (lawful hops) t empty zeros zeros room (take 11 dump ++ 0 ∷ []) refl (rw (worked .ended)) (rw (worked .ended) (omega arith)) in
+      ap (λ i. i .number) (ended-unchanged (importing hops) t (bad .memory) (bad .counts) (bad .words) (bad .room) dump (over .0)) ∙ over .1 ∙ worked .ended
 
   -- ---- The history
 
@@ -177,16 +181,16 @@ module _ {t : Settings} {before : Memory} (worked : Worked t before) where
   its-done = rw (worked .whole) its-calls
 
   given : run t empty calls .answers ≡ 0 ∷ []
-  unfolding stored-by on-paper next-chunk
+  unfolding stored-by on-paper next-chunk import-chunk
   given = rw its-done at (import-numbers begun hops zeros zeros room dump refl refl) ∙ worked .numbers
 
   after : History t calls (0 ∷ []) (one .memory)
-  unfolding next-chunk
+  unfolding next-chunk import-chunk
   after = rw (its-done, given) at (import-history begun hops zeros zeros room dump refl refl)
 
   -- one route is accepted, and one record has no hop
   counts-met : (counts-of (one .counts) .accepted ≡ 1) × (counts-of (one .counts) .hopless ≡ 1)
-  unfolding next-chunk stored-by on-paper accepted-of those counts-of
+  unfolding next-chunk import-chunk stored-by on-paper accepted-of those counts-of
   counts-met = (
     import-accepts begun hops zeros zeros room dump refl refl ∙ rw (its-done, worked .numbers),
     import-hopless begun hops zeros zeros room dump refl refl ∙ rw (worked .whole, its-hopless),

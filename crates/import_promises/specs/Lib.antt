@@ -1,2 +1,2 @@
--- What an import stands for, its records and their single calls, and what a chunk is refused for.
+-- What an import stands for: its records, their single calls and its counts.
 pub mod Dumps

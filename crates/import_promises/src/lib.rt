@@ -1,4 +1,4 @@
-// What is promised of imports, proved of the definitions alone. There is no code here: what a history has of a chunk, what a
-// chunk is refused for and what chunks one after the other come to is defined in specs/Dumps.antt. A chunk is single calls
-// (proofs/Singles.antt), so that all of crates/promises holds after it; however a dump is cut, table, counts and final number
-// are the same (proofs/Cuts.antt); what is said of the chunk itself is in proofs/Promises.antt and proofs/Refused.antt.
+// What is promised of imports, proved of the definitions alone. There is no code here: crates/stream_promises has it of any stream
+// whose records keep some laws, and those of a dump keep them (proofs/Laws.antt). What is a dump's own, the adds that its records
+// are and what is counted of them, is defined in specs/Dumps.antt. Each theorem stands here for imports, under the name that
+// docs/PROMISES.md has.

@@ -1,32 +1,33 @@
 -- A whole message: which number it is given, and that its walk is all that it does.
 use Prim.Native.Nat.{ℕ, suc}
 use mathlib.Core.Path.{_≡_, refl, sym, ap, _∙_}
-use mathlib.Core.Bool.{Bool, true, false, not}
+use mathlib.Core.Bool.{Bool, true, false, cond, not}
 use mathlib.Core.List.{List, []}
 use mathlib.Core.Option.{Option, some, none}
+use lib.Dec.{eqb}
 use lib.ListN.{length}
-use native.Mathlib.Nat.{suc-ne-zero}
 use native.Mathlib.Omega.{arith}
 use borrow.Author.Tests.{ltb-false}
 use Rattle.rules.specs.declared.Settings.{Settings}
-use Rattle.rules.specs.Table.{lent, memory-refusal, refuse}
-use Rattle.rules.proofs.Members.{both}
+use Rattle.rules.specs.Table.{Memory, lent, memory-refusal, refuse}
+use Rattle.rules.specs.Calls.{run}
 use Rattle.rules.proofs.Refusals.{memory-passing}
-use Rattle.message_format.specs.Format.{prefixes-fit, header-good, withdrawn-from, withdrawn-to, attributes-from, announced-from, attributes-good, parts-fit, contents-good, well-formed, announces, message-hop, withdrawn-prefixes, announced-prefixes}
-use Rattle.message_format.specs.Reading.{hop-in, message-refusal, withdrawals, announcements, message-calls, refused-message, apply-message, reported}
+use Rattle.message_format.specs.Format.{withdrawn-to, announced-from, well-formed, announces, message-hop, withdrawn-prefixes, announced-prefixes}
+use Rattle.message_format.specs.Reading.{hop-in, update-refusal, message-refusal, withdrawals, announcements, message-calls, counts, refused-message, apply-message, reported}
 use Rattle.message_format.proofs.Walks.{prefixes-none}
-use Rattle.message_format.proofs.Counting.{parts, message-accepted, message-refused}
+use Rattle.message_format.proofs.Counting.{parts, message-refused}
 use Rattle.message_cursors.specs.declared.Prefixes.{Prefixes}
 use Rattle.message_readers.specs.declared.NextHop.{NextHop}
 use Rattle.message_readers.specs.declared.Hop.the-variants.{At, Missing}
-use Rattle.message_readers.specs.declared.Message.the-variants.{Good, Fault}
+use Rattle.message_readers.specs.declared.Message.the-variants as reading
 use Rattle.message_readers.specs.Readings.{given, hop-number, hop-due, message-read, message-number}
 use Rattle.message_readers.proofs.Headers.{read-refused}
 use Rattle.message_readers.proofs.Places.{due-refused, due-told}
 use Rattle.message_calls.specs.declared.Counts.{Counts}
+use Rattle.message_calls.specs.declared.Applied.the-variants as applied
 use Rattle.message_calls.specs.declared.Task.the-variants.{Add}
-use Rattle.message_calls.specs.Walks.{first-number, task-call, part-calls, both-calls, none-counted, counts-report, refused-report, walked, walked-to, Apart}
-use Rattle.message_calls.proofs.Tallies.{walk-reported}
+use Rattle.message_calls.specs.Walks.{first-number, task-call, part-calls, both-calls, none-counted, refused-report, walked, walked-to, Updated, update-done, applied-to, Apart}
+use Rattle.message_calls.proofs.Tallies.{update-reported, walk-reported}
 
 -- where the withdrawn routes stand, and the announced ones
 abbrev pub withdrawn-part : (message : List ℕ) → Prefixes
@@ -36,10 +37,7 @@ abbrev pub announced-part : (message : List ℕ) → Prefixes
 announced-part message = record { at = announced-from message; end = length message }
 
 pub parts-apart : (message : List ℕ) → well-formed message ≡ true → Apart message (withdrawn-part message) (announced-part message)
-unfolding well-formed contents-good
 parts-apart message good =
-    let inside = both (parts-fit message) (contents-good message) (both (header-good message) _ good .1) .1 in
-    let first = both (prefixes-fit message withdrawn-from (withdrawn-to message)) _ inside in
     let lie = parts message good in
     record {
       withdrawn-lies = lie .withdrawn;
@@ -47,8 +45,8 @@ parts-apart message good =
       announced-lies = lie .announced;
       inside = omega arith;
       short = lie .short;
-      withdrawn-fits = first .0;
-      announced-fits = both (attributes-good message (attributes-from message) (announced-from message)) _ (first .1) .1;
+      withdrawn-fits = lie .withdrawn-fits;
+      announced-fits = lie .announced-fits;
     }
 
 -- ---- The calls
@@ -67,7 +65,7 @@ same-adds message hops {hop} is = go (announces message) refl
     go true e = rw (is e)
     go false e = rw (prefixes-none message (announced-from message) (length message) (ltb-false _ _ e)) (nothing (hop-in message hops))
 
--- ---- The number
+-- ---- The update
 
 refuse-first : (bad : Bool) (number after : ℕ) → refuse bad (suc number) after ≡ first-number (refuse bad (suc number) 0) after
 unfolding refuse first-number
@@ -75,41 +73,51 @@ refuse-first true number after = refl
 refuse-first false number after = refl
 
 module _ (t : Settings) (counters slots message hops : List ℕ) where
-  -- A message is given 1 or 2 as every call, then the number that reading it means, then the one that looking for its hop means.
-  pub number-read : message-refusal t (lent counters slots) message hops
-      ≡ memory-refusal t (lent counters slots) (first-number (message-number (message-read message)) (hop-number (hop-due (announces message) (given (message-hop message)) hops)))
-  unfolding message-refusal hop-in
-  number-read = ap (memory-refusal t (lent counters slots)) (rw (read-refused message, due-refused (announces message) (message-hop message) hops) (refuse-first (not (well-formed message)) 11 _))
+  -- A message is given the number that reading it means, then the one that looking for its hop means.
+  number-read : update-refusal message hops
+      ≡ first-number (message-number (message-read message)) (hop-number (hop-due (announces message) (given (message-hop message)) hops))
+  unfolding update-refusal hop-in
+  number-read = rw (read-refused message, due-refused (announces message) (message-hop message) hops) (refuse-first (not (well-formed message)) 11 _)
 
-  refused-as : {number : ℕ} → message-refusal t (lent counters slots) message hops ≡ number → (number ≡ 0 → ⊥)
-      → apply-message t (lent counters slots) message hops ≡ reported (refused-report number) counters slots
-  unfolding refused-message
-  refused-as e bad = message-refused t (lent counters slots) message hops (λ zero. bad (sym e ∙ zero)) ∙ rw e
+  pub faulty : message-read message ≡ reading.Fault → update-done t (lent counters slots) message hops ≡ applied-to applied.Fault counters slots
+  unfolding first-number message-number update-done applied-to
+  faulty read = rw (number-read, read)
 
-  pub memory-refused : {number : ℕ} → number ≡ memory-refusal t (lent counters slots) 0 → (number ≡ 0 → ⊥)
-      → apply-message t (lent counters slots) message hops ≡ reported (refused-report number) counters slots
-  memory-refused e bad = refused-as (number-read ∙ memory-passing t (lent counters slots) .refuses (λ zero. bad (e ∙ zero)) _ ∙ sym e) bad
+  module _ {withdrawn-to announced-from : ℕ} {next-hop : NextHop} (read : message-read message ≡ reading.Good withdrawn-to announced-from next-hop) where
+    pub hopless : hop-due (announces message) (given (message-hop message)) hops ≡ Missing
+        → update-done t (lent counters slots) message hops ≡ applied-to applied.Hopless counters slots
+    unfolding first-number message-number hop-number update-done applied-to
+    hopless due = rw (number-read, read, due)
 
-  module _ (memory : memory-refusal t (lent counters slots) 0 ≡ 0) where
-    past-memory : message-refusal t (lent counters slots) message hops
-        ≡ first-number (message-number (message-read message)) (hop-number (hop-due (announces message) (given (message-hop message)) hops))
-    past-memory = number-read ∙ memory-passing t (lent counters slots) .accepts memory _
+    pub both-done : {hop : ℕ} → hop-due (announces message) (given (message-hop message)) hops ≡ At hop → {last : Counts} {counters' slots' : List ℕ}
+        → walked t (lent counters slots) none-counted (both-calls message (withdrawn-part message) (announced-part message) hop) ≡ walked-to last counters' slots'
+        → update-done t (lent counters slots) message hops ≡ applied-to (applied.Good last) counters' slots'
+    unfolding first-number message-number hop-number hop-in message-calls withdrawals withdrawn-prefixes both-calls part-calls task-call update-done applied-to
+    both-done due done =
+        rw (number-read, read, due, same-adds message hops (due-told (announces message) (message-hop message) hops due .0))
+        (ap (λ w. record { refusal = 0; walk = w }) done)
 
-    pub faulty : message-read message ≡ Fault → apply-message t (lent counters slots) message hops ≡ reported (refused-report 12) counters slots
-    unfolding first-number message-number
-    faulty read = refused-as (past-memory ∙ rw read) (suc-ne-zero 11)
+-- ---- The call
 
-    module _ {withdrawn-to announced-from : ℕ} {next-hop : NextHop} (read : message-read message ≡ Good withdrawn-to announced-from next-hop) where
-      pub hopless : hop-due (announces message) (given (message-hop message)) hops ≡ Missing
-          → apply-message t (lent counters slots) message hops ≡ reported (refused-report 13) counters slots
-      unfolding first-number message-number hop-number
-      hopless due = refused-as (past-memory ∙ rw (read, due)) (suc-ne-zero 12)
+-- 1 or 2 is given as to every call.
+pub memory-refused : (t : Settings) (counters slots message hops : List ℕ) {number : ℕ} → number ≡ memory-refusal t (lent counters slots) 0 → (number ≡ 0 → ⊥)
+    → apply-message t (lent counters slots) message hops ≡ reported (refused-report number) counters slots
+unfolding message-refusal refused-message
+memory-refused t counters slots message hops {number} e bad =
+    let m = lent counters slots in
+    let same : message-refusal t m message hops ≡ number = memory-passing t m .refuses (λ zero. bad (e ∙ zero)) _ ∙ sym e in
+    message-refused t m message hops (λ zero. bad (sym same ∙ zero)) ∙ rw same
 
-      pub both-done : {hop : ℕ} → hop-due (announces message) (given (message-hop message)) hops ≡ At hop → {last : Counts} {counters' slots' : List ℕ}
-          → walked t (lent counters slots) none-counted (both-calls message (withdrawn-part message) (announced-part message) hop) ≡ walked-to last counters' slots'
-          → apply-message t (lent counters slots) message hops ≡ reported (counts-report last) counters' slots'
-      unfolding first-number message-number hop-number hop-in message-calls withdrawals withdrawn-prefixes both-calls part-calls task-call
-      both-done due done =
-          message-accepted t (lent counters slots) message hops (past-memory ∙ rw (read, due))
-          ∙ walk-reported t (lent counters slots) (message-calls message hops)
-          (rw (same-adds message hops (due-told (announces message) (message-hop message) hops due .0)) done)
+-- Past 1 and 2 a message is its update.
+pub update-told : (t : Settings) (m : Memory) (message hops : List ℕ) → memory-refusal t m 0 ≡ 0 → {u : Updated} → update-done t m message hops ≡ u
+    → apply-message t m message hops ≡ update-reported u
+unfolding apply-message message-refusal update-done refused-message
+update-told t m message hops fits done = rw (memory-passing t m .accepts fits number) (go (eqb number 0)) ∙ ap update-reported done
+  where
+    number : ℕ
+    number = update-refusal message hops
+
+    go : (b : Bool) → cond b (counts (run t m (message-calls message hops))) (refused-message number m)
+        ≡ update-reported (cond b (record { refusal = 0; walk = walked t m none-counted (message-calls message hops) }) (record { refusal = number; walk = record { counts = none-counted; memory = m } }))
+    go true = walk-reported t m (message-calls message hops)
+    go false = refl

@@ -1,17 +1,21 @@
 -- The walk over the two parts of a message: the single calls that it makes, what it counts, and what it starts from.
 use Prim.Native.Nat.{ℕ, zero, suc, _+_, _≤_, _<_}
 use mathlib.Core.Path.{_≡_}
-use mathlib.Core.Bool.{Bool, true}
+use mathlib.Core.Bool.{Bool, true, cond}
 use mathlib.Core.List.{List, [], _∷_, map, _++_}
-use lib.Dec.{leb}
+use lib.Dec.{leb, eqb}
 use lib.ListN.{length}
+use Rattle.rules.specs.Tools.{count}
 use Rattle.rules.specs.declared.Settings.{Settings}
 use Rattle.rules.specs.Table.{Memory, lent}
 use Rattle.rules.specs.Calls.{Call, Add, Withdraw, run, accepted-of, refused-of}
 use Rattle.message_format.specs.declared.Report.{Report}
 use Rattle.message_format.specs.Format.{prefixes-fit, prefixes}
+use Rattle.message_format.specs.Reading.{update-refusal, message-calls}
 use Rattle.message_cursors.specs.declared.Prefixes.{Prefixes}
 use Rattle.message_calls.specs.declared.Counts.{Counts}
+use Rattle.message_calls.specs.declared.Applied.{Applied}
+use Rattle.message_calls.specs.declared.Applied.the-variants as applied
 use Rattle.message_calls.specs.declared.Task.{Task}
 use Rattle.message_calls.specs.declared.Task.the-variants as task
 
@@ -44,12 +48,20 @@ both-calls message withdrawn announced hop =
 
 -- nothing is counted yet
 abbrev pub none-counted : Counts
-none-counted = record { accepted = 0; refused = 0 }
+none-counted = record { accepted = 0; refused = 0; unstored = 0; full = 0; above = 0; below = 0; odd = 0 }
 
 -- the counts with these answers more: each is a function of the answers
 unfoldable pub tallied : Counts → (answers : List ℕ) → Counts
 tallied earlier answers =
-    record { accepted = earlier .accepted + accepted-of answers; refused = earlier .refused + refused-of answers }
+    record {
+      accepted = earlier .accepted + accepted-of answers;
+      refused = earlier .refused + refused-of answers;
+      unstored = earlier .unstored + count 7 answers;
+      full = earlier .full + count 8 answers;
+      above = earlier .above + count 9 answers;
+      below = earlier .below + count 10 answers;
+      odd = earlier .odd + count 11 answers;
+    }
 
 -- one answer more
 abbrev pub counted : Counts → (number : ℕ) → Counts
@@ -92,6 +104,27 @@ unfoldable pub walked : Settings → Memory → Counts → List Call → Walked
 walked t m earlier calls =
     let made = run t m calls in
     record { counts = tallied earlier (made .answers); memory = made .last }
+
+-- ---- Messages
+
+-- what a message does by what stands in it: the number that refuses it, what is counted, and what it leaves
+pub record Updated : Type 0 where
+  pub refusal : ℕ
+  pub walk : Walked
+
+-- a message past the checks of the memory
+unfoldable pub update-done : Settings → Memory → (message hops : List ℕ) → Updated
+update-done t m message hops =
+    let refusal = update-refusal message hops in
+    cond (eqb refusal 0)
+    (record { refusal = 0; walk = walked t m none-counted (message-calls message hops) })
+    (record { refusal = refusal; walk = record { counts = none-counted; memory = m } })
+
+-- what an answer means: 12 and 13 are the numbers of the two faults, after which nothing is counted
+unfoldable pub applied-to : Applied → (counters slots : List ℕ) → Updated
+applied-to (applied.Good counts) counters slots = record { refusal = 0; walk = walked-to counts counters slots }
+applied-to applied.Hopless counters slots = record { refusal = 13; walk = walked-to none-counted counters slots }
+applied-to applied.Fault counters slots = record { refusal = 12; walk = walked-to none-counted counters slots }
 
 -- two parts of a message, one after the other, whose prefixes fit
 pub record Apart (message : List ℕ) (withdrawn announced : Prefixes) : Type 0 where

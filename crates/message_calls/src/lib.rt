@@ -8,7 +8,8 @@ ghost use Rattle.rules.specs.Calls.{act};
 ghost use Rattle.rules.specs.Ready.{Counters, Slots};
 ghost use Rattle.updates.specs.Checked.{Checked};
 ghost use Rattle.message_format.specs.Reading.{apply-message, reported};
-ghost use Rattle.message_calls.specs.Walks.{refused-report, counts-report, none-counted, counted, Few, task-call, hop-fits, both-calls, walked, walked-to, Apart};
+ghost use Rattle.message_calls.specs.Walks.{refused-report, counts-report, none-counted, counted, Few, task-call, hop-fits, both-calls, walked, walked-to, update-done, applied-to, Apart};
+use lookup_answers::one_if;
 use message_cursors::NextPrefix;
 use message_cursors::Prefixes;
 use message_format::Report;
@@ -32,10 +33,32 @@ fn report_refused(refusal: u32) -> Report
     }
 }
 
-// How many single calls were accepted, and how many were refused.
-struct Counts {
-    accepted: u32,
-    refused: u32,
+// How many single calls were accepted, how many were refused, and how many of these under each number that a
+// route of a message can be given: 7 (not stored), 8 (the bucket is full), 9 (a counter would pass 15), 10 (a
+// counter would pass 0) and 11 (an odd prefix).
+pub struct Counts {
+    pub accepted: u32,
+    pub refused: u32,
+    pub unstored: u32,
+    pub full: u32,
+    pub above: u32,
+    pub below: u32,
+    pub odd: u32,
+}
+
+// No call yet.
+pub fn none_counted() -> Counts
+    ensures { λ r. ⌜ r ≡ none-counted ⌝ }
+{
+    Counts {
+        accepted: 0,
+        refused: 0,
+        unstored: 0,
+        full: 0,
+        above: 0,
+        below: 0,
+        odd: 0,
+    }
 }
 
 // The counts with one call more, which was given this number.
@@ -47,11 +70,21 @@ fn count(earlier: Counts, number: u32) -> Counts
         Counts {
             accepted: earlier.accepted + 1,
             refused: earlier.refused,
+            unstored: earlier.unstored,
+            full: earlier.full,
+            above: earlier.above,
+            below: earlier.below,
+            odd: earlier.odd,
         }
     } else {
         Counts {
             accepted: earlier.accepted,
             refused: earlier.refused + 1,
+            unstored: earlier.unstored + one_if(number == 7),
+            full: earlier.full + one_if(number == 8),
+            above: earlier.above + one_if(number == 9),
+            below: earlier.below + one_if(number == 10),
+            odd: earlier.odd + one_if(number == 11),
         }
     }
 }
@@ -111,10 +144,7 @@ fn apply_parts(
 {
     let mut task = Task::Withdraw;
     let mut rest = withdrawn;
-    let mut counts = Counts {
-        accepted: 0,
-        refused: 0,
-    };
+    let mut counts = none_counted();
     loop {
         match rest.next(message) {
             NextPrefix::Prefix {
@@ -141,6 +171,57 @@ fn apply_parts(
     }
 }
 
+// What a message did: its single calls are counted; prefixes are announced without a hop that is in the list;
+// or it is not well-formed.
+pub enum Applied {
+    Good(Counts),
+    Hopless,
+    Fault,
+}
+
+// Applies one message to a table whose settings and sizes are good.
+pub fn apply_update(
+    settings: Settings,
+    counters: &mut [u8],
+    slots: &mut [u32],
+    message: &[u8],
+    hops: &[u32],
+) -> Applied
+    requires { ⌜ in-range settings ≡ true ⌝ }
+    requires { ⌜ Counters settings (now counters) ⌝ }
+    requires { ⌜ Slots settings (now slots) ⌝ }
+    ensures { λ r. ⌜ update-done settings (lent (now (counters .entry)) (now (slots .entry))) (now (message .entry)) (now (hops .entry)) ≡ applied-to r (now (counters .exit)) (now (slots .exit)) ⌝ }
+{
+    let Message::Good {
+        withdrawn_to,
+        announced_from,
+        next_hop,
+    } = read_message(message)
+    else {
+        return Applied::Fault;
+    };
+    let Hop::At(hop) = hop_due(announced_from < message.len(), next_hop, hops) else {
+        return Applied::Hopless;
+    };
+    let withdrawn = Prefixes {
+        at: 21,
+        end: withdrawn_to,
+    };
+    let announced = Prefixes {
+        at: announced_from,
+        end: message.len(),
+    };
+    Applied::Good(apply_parts(
+        settings,
+        counters,
+        slots,
+        message,
+        withdrawn,
+        announced,
+        hop,
+    ))
+}
+
 // Applies one message: its withdrawn routes in order, then its announced ones, whose hop is the lowest place
 // of NEXT_HOP in the list. A route that the table refuses is counted and skipped.
 pub fn apply_message(
@@ -156,32 +237,9 @@ pub fn apply_message(
     if refusal != 0 {
         return report_refused(refusal);
     }
-    let Message::Good {
-        withdrawn_to,
-        announced_from,
-        next_hop,
-    } = read_message(message)
-    else {
-        return report_refused(12);
-    };
-    let Hop::At(hop) = hop_due(announced_from < message.len(), next_hop, hops) else {
-        return report_refused(13);
-    };
-    let withdrawn = Prefixes {
-        at: 21,
-        end: withdrawn_to,
-    };
-    let announced = Prefixes {
-        at: announced_from,
-        end: message.len(),
-    };
-    report_counts(apply_parts(
-        settings,
-        counters,
-        slots,
-        message,
-        withdrawn,
-        announced,
-        hop,
-    ))
+    match apply_update(settings, counters, slots, message, hops) {
+        Applied::Good(counts) => report_counts(counts),
+        Applied::Hopless => report_refused(13),
+        Applied::Fault => report_refused(12),
+    }
 }

@@ -17,8 +17,8 @@ use Rattle.rules.specs.Calls.{run}
 use Rattle.rules.proofs.Calls.{answers-length, counted-all}
 use Rattle.rules.proofs.Members.{both, within-true}
 use Rattle.rules.proofs.Refusals.{passed, memory-passed}
-use Rattle.message_format.specs.Format.{after-prefix, prefixes, header-good, withdrawn-from, withdrawn-to, attributes-from, announced-from, parts-fit, withdrawn-prefixes, announced-prefixes, contents-good, well-formed, announces}
-use Rattle.message_format.specs.Reading.{hop-in, is-hop, message-refusal, withdrawals, announcements, message-calls, counts, refused-message, apply-message}
+use Rattle.message_format.specs.Format.{after-prefix, prefixes-fit, prefixes, header-good, withdrawn-from, withdrawn-to, attributes-from, announced-from, attributes-good, parts-fit, withdrawn-prefixes, announced-prefixes, contents-good, well-formed, announces}
+use Rattle.message_format.specs.Reading.{hop-in, is-hop, update-refusal, message-refusal, withdrawals, announcements, message-calls, counts, refused-message, apply-message}
 use Rattle.message_format.proofs.Walks.{by-steps, after-prefix-later, prefixes-none, prefixes-next}
 
 -- ---- A part has no more prefixes than bytes
@@ -32,25 +32,30 @@ prefixes-few bytes at end = by-steps end (after-prefix bytes) (after-prefix-late
 
 -- ---- A well-formed message
 
--- where its parts lie
+-- where its parts lie, and that its prefixes fit
 pub record Parts (message : List ℕ) : Type 0 where
   pub withdrawn : withdrawn-from ≤ withdrawn-to message
   pub attributes : withdrawn-to message + 2 ≤ announced-from message
   pub announced : announced-from message ≤ length message
   pub short : length message ≤ 4096
+  pub withdrawn-fits : prefixes-fit message withdrawn-from (withdrawn-to message) ≡ true
+  pub announced-fits : prefixes-fit message (announced-from message) (length message) ≡ true
 
 pub parts : (message : List ℕ) → well-formed message ≡ true → Parts message
-unfolding well-formed header-good parts-fit withdrawn-to attributes-from announced-from
+unfolding well-formed header-good parts-fit contents-good withdrawn-to attributes-from announced-from
 parts message good =
     let whole = both (header-good message) _ good in
     let sized = both (within 23 4096 (length message)) _ (whole .0) in
     let inside = both (parts-fit message) (contents-good message) (whole .1) in
     let ends = both (leb (attributes-from message) (length message)) _ (inside .0) in
+    let contents = both (prefixes-fit message withdrawn-from (withdrawn-to message)) _ (inside .1) in
     record {
       withdrawn = omega arith;
       attributes = omega arith;
       announced = leb-true _ _ (ends .1);
       short = within-true 23 4096 (length message) (sized .0) .1;
+      withdrawn-fits = contents .0;
+      announced-fits = both (attributes-good message (attributes-from message) (announced-from message)) _ (contents .1) .1;
     }
 
 -- Its withdrawn and announced prefixes are fewer than 4,096.
@@ -73,11 +78,15 @@ pub record Passed (message hops : List ℕ) : Type 0 where
   pub good : well-formed message ≡ true
   pub hop : announces message && not (is-hop (hop-in message hops)) ≡ false
 
+pub update-passed : (message hops : List ℕ) → update-refusal message hops ≡ 0 → Passed message hops
+unfolding update-refusal
+update-passed message hops e =
+    let twelve = passed (not (well-formed message)) 11 _ e in
+    record { good = not-false _ (twelve .0); hop = passed _ 12 0 (twelve .1) .0 }
+
 pub message-passed : (t : Settings) (m : Memory) (message hops : List ℕ) → message-refusal t m message hops ≡ 0 → Passed message hops
 unfolding message-refusal
-message-passed t m message hops e =
-    let twelve = passed (not (well-formed message)) 11 _ (memory-passed t (m .counters) (m .slots) _ e .1) in
-    record { good = not-false _ (twelve .0); hop = passed _ 12 0 (twelve .1) .0 }
+message-passed t m message hops e = update-passed message hops (memory-passed t (m .counters) (m .slots) _ e .1)
 
 -- ---- A message's single calls
 
@@ -100,6 +109,12 @@ module _ (message hops : List ℕ) where
     pub calls-total : length (message-calls message hops) ≡ length (withdrawn-prefixes message) + length (announced-prefixes message)
     unfolding message-calls
     calls-total = one-each (hop-in message hops) nothing-announced
+
+-- They are no more than 4,096.
+pub calls-few : (message hops : List ℕ) → update-refusal message hops ≡ 0 → length (message-calls message hops) ≤ 4096
+calls-few message hops e =
+    let passed = update-passed message hops e in
+    omega (arith, calls-total message hops passed, routes-few message (passed .good))
 
 module _ (t : Settings) (m : Memory) (message hops : List ℕ) where
   -- An accepted message is given the counts of its calls, and leaves the memory as they do.

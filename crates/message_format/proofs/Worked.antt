@@ -13,7 +13,7 @@ use Rattle.rules.specs.Calls.{act, each, run, accepted-of, refused-of}
 use Rattle.rules.proofs.Worked.{ip, settings, T, empty, figures, finds, told as written, sevens, Case, case, same-words, come-out, computing as rules-computing}
 use Rattle.rules.proofs.Lowest.{lowest-here, lowest-none}
 use Rattle.message_format.specs.Format.{some-starts, starts, byte, from-octets, two-bytes, four-bytes, Prefix, bytes-for, octet, address-at, prefix-from, after-prefix, prefix-fits, prefixes-fit, prefixes, extended, type-of, value-from, value-size, after-attribute, attribute-fits, attributes-fit, next-hops, at-most-one, attributes-good, first-hop, next-hop, all-ones, header-good, withdrawn-to, attributes-from, announced-from, parts-fit, withdrawn-prefixes, announced-prefixes, announces, message-hop, contents-good, well-formed}
-use Rattle.message_format.specs.Reading.{place-in, hop-place, is-hop, hop-in, message-refusal, withdrawals, announcements, message-calls, Read, counts, refused-message, apply-message, report-number}
+use Rattle.message_format.specs.Reading.{place-in, hop-place, is-hop, hop-in, update-refusal, message-refusal, withdrawals, announcements, message-calls, Read, counts, refused-message, apply-message, report-number}
 use Rattle.message_format.specs.Writing.{octets, prefix-bytes, withdrawal-size, withdrawal, writing-refusal, write-withdrawal}
 
 -- ---- What the cases are written in
@@ -304,7 +304,7 @@ written-ones =
 
 -- to unfold this is to unfold all that a message computes with but the place of its hop
 unfoldable reading : ℕ
-unfolding byte from-octets two-bytes four-bytes bytes-for octet address-at prefix-from after-prefix prefix-fits some-starts starts prefixes-fit prefixes extended type-of value-from value-size after-attribute attribute-fits attributes-fit next-hops at-most-one attributes-good first-hop next-hop all-ones header-good withdrawn-to attributes-from announced-from parts-fit withdrawn-prefixes announced-prefixes announces message-hop contents-good well-formed is-hop message-refusal withdrawals announcements message-calls act each run accepted-of refused-of counts refused-message apply-message report-number octets prefix-bytes withdrawal-size withdrawal writing-refusal write-withdrawal rules-computing
+unfolding byte from-octets two-bytes four-bytes bytes-for octet address-at prefix-from after-prefix prefix-fits some-starts starts prefixes-fit prefixes extended type-of value-from value-size after-attribute attribute-fits attributes-fit next-hops at-most-one attributes-good first-hop next-hop all-ones header-good withdrawn-to attributes-from announced-from parts-fit withdrawn-prefixes announced-prefixes announces message-hop contents-good well-formed is-hop update-refusal message-refusal withdrawals announcements message-calls act each run accepted-of refused-of counts refused-message apply-message report-number octets prefix-bytes withdrawal-size withdrawal writing-refusal write-withdrawal rules-computing
 reading = 0
 
 -- and this is all

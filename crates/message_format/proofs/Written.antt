@@ -14,7 +14,7 @@ use Rattle.rules.specs.Table.{Memory, prefix, loose, refuse, memory-refusal}
 use Rattle.rules.specs.Calls.{Withdraw, run}
 use Rattle.rules.proofs.Prefixes.{loose-false}
 use Rattle.message_format.specs.Format.{byte, from-octets, two-bytes, some-starts, starts, Prefix, bytes-for, octet, address-at, prefix-from, after-prefix, prefix-fits, prefixes-fit, prefixes, attributes-fit, next-hops, at-most-one, attributes-good, first-hop, next-hop, all-ones, header-good, withdrawn-to, attributes-from, announced-from, parts-fit, withdrawn-prefixes, announced-prefixes, announces, message-hop, contents-good, well-formed}
-use Rattle.message_format.specs.Reading.{hop-place, hop-in, message-refusal, withdrawals, announcements, message-calls, counts, refused-message, apply-message}
+use Rattle.message_format.specs.Reading.{hop-place, hop-in, update-refusal, message-refusal, withdrawals, announcements, message-calls, counts, refused-message, apply-message}
 use Rattle.message_format.specs.Writing.{octets, prefix-bytes, withdrawal-size, withdrawal}
 use Rattle.message_format.proofs.Octets.{by-bytes}
 
@@ -91,5 +91,5 @@ module _ (p L : ℕ) (short : L ≤ 32) (tight : loose p L ≡ false) (word : p 
   -- with its number.
   pub reading-gives-it-back : (t : Settings) (m : Memory) (hops : List ℕ) → apply-message t m (withdrawal p L) hops
       ≡ cond (eqb (memory-refusal t m 0) 0) (counts (run t m (Withdraw p L ∷ []))) (refused-message (memory-refusal t m 0) m)
-  unfolding apply-message message-refusal refuse
+  unfolding apply-message update-refusal message-refusal refuse
   reading-gives-it-back t m hops = simp (withdrawal-good, withdrawal-no-more .1 .0, withdrawal-calls)

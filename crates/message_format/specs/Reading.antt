@@ -34,11 +34,14 @@ hop-in message hops = hop-place hops (message-hop message)
 
 -- ---- Numbers given back for bad input
 
--- 1 and 2, as every call; then 12, and then 13
+-- 12, and then 13: what a message is refused for by what stands in it
+unfoldable pub update-refusal : (message hops : List ℕ) → ℕ
+update-refusal message hops =
+    refuse (not (well-formed message)) 12 (refuse (announces message && not (is-hop (hop-in message hops))) 13 0)
+
+-- 1 and 2 go before them, as in every call
 unfoldable pub message-refusal : Settings → Memory → (message hops : List ℕ) → ℕ
-message-refusal t m message hops =
-    memory-refusal t m
-    (refuse (not (well-formed message)) 12 (refuse (announces message && not (is-hop (hop-in message hops))) 13 0))
+message-refusal t m message hops = memory-refusal t m (update-refusal message hops)
 
 -- ---- What a message does
 

@@ -14,7 +14,7 @@ use Rattle.rules.specs.Table.{Memory, refuse, memory-refusal}
 use Rattle.rules.proofs.Lowest.{some-lowest}
 use Rattle.rules.proofs.Prefixes.{loose-low}
 use Rattle.message_format.specs.Format.{announces, message-hop}
-use Rattle.message_format.specs.Reading.{place-in, hop-place, is-hop, hop-in, message-refusal}
+use Rattle.message_format.specs.Reading.{place-in, hop-place, is-hop, hop-in, update-refusal, message-refusal}
 use Rattle.message_format.specs.Writing.{writing-refusal}
 use Rattle.message_format.proofs.Written.{withdrawal-length}
 use Rattle.promises.specs.Demands.{some-below, memory-conditions, route-conditions}
@@ -47,7 +47,7 @@ hop-unknown hops (some address) = ap not (low-place (λ i. eqb (getD hops i 0) a
 
 pub message-checks : (t : Settings) (m : Memory) (message hops : List ℕ)
     → message-refusal t m message hops ≡ memory-refusal t m (refuse (malformed message) 12 (refuse (no-hop message hops) 13 0))
-unfolding message-refusal hop-in announces no-hop
+unfolding update-refusal message-refusal hop-in announces no-hop
 message-checks t m message hops = rw (form-bad message, hop-unknown hops (message-hop message))
 
 pub message-first : (t : Settings) (m : Memory) (message hops : List ℕ) → message-refusal t m message hops ≡ first-met (message-conditions t m message hops)

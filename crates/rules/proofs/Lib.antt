@@ -3,6 +3,7 @@ pub mod Answers
 pub mod Calls
 pub mod Cuts
 pub mod Equal
+pub mod Given
 pub mod Levels
 pub mod Lists
 pub mod Lowest

@@ -2,7 +2,7 @@
 use Prim.Native.Nat.{ℕ, zero, suc, _+_, _≤_, _<_}
 use mathlib.Core.Path.{_≡_, refl, sym, ap, _∙_}
 use mathlib.Core.Bool.{Bool, true, false, cond, not, _&&_, _||_, true≢false, false≢true, and-true, and-assoc}
-use mathlib.Core.List.{List, [], _∷_, map}
+use mathlib.Core.List.{List, [], _∷_, _++_, map}
 use mathlib.Core.Logic.{_⊎_, inl, inr}
 use native.Mathlib.Nat.{not-suc-le-zero, le-of-suc-le-suc, zero-add}
 use native.Mathlib.Omega.{arith}
@@ -63,6 +63,21 @@ count-map f apart x (y ∷ ys) = go (eqb x y) refl (count-map f apart x ys)
     go true e same = rw (e, eq-eqb (f x) (f y) (ap f (eqb-true x y e)), same)
     go false e same = rw (e, ne-eqb (f x) (f y) (λ (e′ : f x ≡ f y). eqb-false x y e (apart x y e′)), same)
 
+pub count-append : (x : ℕ) (xs more : List ℕ) → count x (xs ++ more) ≡ count x xs + count x more
+unfolding count
+count-append x [] more = sym (zero-add (count x more))
+count-append x (y ∷ ys) more = omega (arith, count-append x ys more)
+
+-- no number stands in a list more often than the list is long
+pub count-few : (x : ℕ) (xs : List ℕ) → count x xs ≤ length xs
+unfolding count
+count-few x [] = omega arith
+count-few x (y ∷ ys) = go (eqb x y) (count-few x ys)
+  where
+    go : (b : Bool) → count x ys ≤ length ys → cond b 1 0 + count x ys ≤ length (y ∷ ys)
+    go true rest = omega arith
+    go false rest = omega arith
+
 -- all holds: the test holds at each that stands in the list
 pub all-true : (test : ℕ → Bool) (xs : List ℕ) → all test xs ≡ true → (x : ℕ) → Among x xs → test x ≡ true
 unfolding all
@@ -72,6 +87,14 @@ all-true test (y ∷ ys) h x m = go (both (test y) (all test ys) h) (among-cases
     go : (test y ≡ true) × (all test ys ≡ true) → (x ≡ y) ⊎ Among x ys → (all test ys ≡ true → Among x ys → test x ≡ true) → test x ≡ true
     go h (inl e) later = ap test e ∙ h .0
     go h (inr m) later = later (h .1) m
+
+-- so a number at which it fails stands nowhere in it
+pub count-none : (test : ℕ → Bool) (xs : List ℕ) → all test xs ≡ true → (x : ℕ) → test x ≡ false → count x xs ≡ 0
+count-none test xs h x fails = go (count x xs) (all-true test xs h x)
+  where
+    go : (n : ℕ) → (1 ≤ n → test x ≡ true) → n ≡ 0
+    go zero there = refl
+    go (suc n) there = absurd (true≢false (sym (there (omega arith)) ∙ fails))
 
 -- and at each place of it
 pub all-at : (test : ℕ → Bool) (xs : List ℕ) (i : ℕ) → all test xs ≡ true → i < length xs → test (getD xs i 0) ≡ true

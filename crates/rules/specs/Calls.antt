@@ -1,10 +1,10 @@
 -- A call that writes, with its arguments; and calls made one after the other.
 use Prim.Native.Nat.{ℕ, _^_}
-use mathlib.Core.Bool.{Bool, true, not, _&&_}
+use mathlib.Core.Bool.{Bool, true, not, _&&_, _||_}
 use mathlib.Core.List.{List, [], _∷_}
 use lib.Dec.{ltb, eqb}
 use lib.ListN.{length}
-use Rattle.rules.specs.Tools.{those}
+use Rattle.rules.specs.Tools.{within, those}
 use Rattle.rules.specs.declared.Settings.{Settings}
 use Rattle.rules.specs.Table.{Memory, Outcome, clear, add, withdraw, change}
 
@@ -54,6 +54,10 @@ unfoldable pub run : Settings → Memory → List Call → Run Memory
 run t = each (λ m call. act t call m .refusal) (λ m call. act t call m .memory)
 
 -- ---- What is counted of the answers
+
+-- the numbers that a route with good settings, length, bits and hop can be given: 0, and 7 to 11
+unfoldable pub route-number : (n : ℕ) → Bool
+route-number n = eqb n 0 || within 7 11 n
 
 -- how many calls were accepted
 unfoldable pub accepted-of : (answers : List ℕ) → ℕ

@@ -1,3 +1,4 @@
--- What a stream of records is, and what is kept of it.
+-- What a stream of records is, what is kept of it, and what a call with a table makes of it.
 pub mod Streams
 pub mod Kept
+pub mod Chunks

@@ -1,7 +1,7 @@
 -- A stream of records, byte by byte, under the headings of docs/TABLE.md. The bytes of a record that is read are kept in
 -- lent room of 65,548 bytes: 12 for its header, and 65,536 for its body.
 use Prim.Native.Nat.{ℕ, _+_, _-_}
-use mathlib.Core.Bool.{Bool, cond, _&&_}
+use mathlib.Core.Bool.{Bool, cond, _&&_, _||_}
 use mathlib.Core.List.{List}
 use lib.ListN.{take, set}
 use lib.Dec.{ltb, eqb}
@@ -15,9 +15,11 @@ use Rattle.stream_format.specs.declared.Event.the-variants.{Nothing, Rec
 
 -- ---- A record's header: time, type, subtype, and how many bytes follow it
 
--- type and subtype are those that are read
+-- the type is the one that is read, and the subtype one of the two
 unfoldable pub is-kind : Kind → (bytes : List ℕ) → Bool
-is-kind kind bytes = eqb (two-bytes bytes 4) (kind .number) && eqb (two-bytes bytes 6) (kind .subtype)
+is-kind kind bytes =
+    eqb (two-bytes bytes 4) (kind .number)
+    && (eqb (two-bytes bytes 6) (kind .subtype) || eqb (two-bytes bytes 6) (kind .also))
 
 -- how many bytes the body has
 unfoldable pub body-size : (bytes : List ℕ) → ℕ

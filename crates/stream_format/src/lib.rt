@@ -1,11 +1,14 @@
 // The records of an MRT file as they come out of a stream of bytes, as definitions that are computed (specs/)
-// and laws about them (proofs/): what a byte does to a stream, and what is kept of it between two chunks. What
-// a record does is not told here. There is no code: only the types that the calls and the definitions share.
+// and laws about them (proofs/): what a byte does to a stream, what is kept of it between two chunks, and what
+// a chunk gives back. What a record says is not told here. There is no code: only the types that the calls and
+// the definitions share.
 
-// The type and subtype of the records that are read; those of every other kind are stepped over.
+// The type and the two subtypes of the records that are read; those of every other kind are stepped over. Where
+// one subtype is read, both are that one.
 pub struct Kind {
     pub number: u32,
     pub subtype: u32,
+    pub also: u32,
 }
 
 // Where a stream stands between two bytes.

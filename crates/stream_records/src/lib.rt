@@ -26,14 +26,18 @@ pub struct Next {
     pub event: Event,
 }
 
-// Whether type and subtype are those that are read.
+// Whether the type is the one that is read, and the subtype one of the two.
 fn is_kind(kind: Kind, room: &[u8; 65548]) -> bool
     ensures { λ r. ⌜ r ≡ is-kind kind (now (room .entry)) ⌝ }
 {
     if two_bytes(room, 4) != kind.number {
         return false;
     }
-    two_bytes(room, 6) == kind.subtype
+    let subtype = two_bytes(room, 6);
+    if subtype == kind.subtype {
+        return true;
+    }
+    subtype == kind.also
 }
 
 // Whether the words mean a record that is read, by how much of it stands in the room and how much is to come.

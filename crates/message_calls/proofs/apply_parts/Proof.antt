@@ -21,15 +21,15 @@ abbrev μ-loop : tie.MeasureT-loop
 μ-loop settings counters₀ slots₀ message announced hop task₀ rest₀ counts₀ counters slots task rest counts = length message - rest .at
 
 loop-holds : tie.Need-loop-holds Inv-loop μ-loop
-loop-holds c = (goes (c .before .before .before .pre .1 .1 .1 .0), refl, refl)
+loop-holds c = (rw (c .none-counted .ensures) (goes (c .before .before .before .before .pre .1 .1 .1 .0)), refl, refl)
 
 -- the two parts lie in the message
-apart : (c : tie.At-loop Inv-loop μ-loop) → let a = c .before .before .before .before .args in Apart (now (a .message)) (a .withdrawn) (a .announced)
-apart c = c .before .before .before .before .pre .1 .1 .1 .0
+apart : (c : tie.At-loop Inv-loop μ-loop) → let a = c .before .before .before .before .before .args in Apart (now (a .message)) (a .withdrawn) (a .announced)
+apart c = c .before .before .before .before .before .pre .1 .1 .1 .0
 
 -- the prefix that was read
 moved : (c : tie.After-known-told Inv-loop μ-loop) → let q = c .before .prefix .given .0 in
-    Moved (now (c .before .before .before .before .before .before .before .before .args .message)) (c .before .before .before .before .loop .rest) (q .0) (q .1 .0) (q .1 .1 .0)
+    Moved (now (c .before .before .before .before .before .before .before .before .before .args .message)) (c .before .before .before .before .loop .rest) (q .0) (q .1 .0) (q .1 .1 .0)
 moved c =
     let read = c .before .before .before in
     told _ _ (read .before .loop .inv .0 .inside) (sym (read .next .ensures) ∙ c .before .prefix .given .1)
@@ -38,7 +38,7 @@ apply-task-requires : tie.Need-apply-task-requires Inv-loop μ-loop
 apply-task-requires c κs =
     let k = c .before .before in
     let loop = k .before .before .before .before .loop in
-    let pre = k .before .before .before .before .before .before .before .before .pre in
+    let pre = k .before .before .before .before .before .before .before .before .before .pre in
     (checked (moved k) (pre .0) (loop .inv .1 ∙ pre .1 .0 .size) (loop .inv .2 ∙ pre .1 .1 .0 .size), loop .inv .0 .hop-good)
 
 count-requires : tie.Need-count-requires Inv-loop μ-loop
@@ -70,7 +70,7 @@ loop-again-2 : tie.Need-loop-again-2 Inv-loop μ-loop
 loop-again-2 c =
     let k = c .before .before in
     let at = k .before .before .before in
-    (turns (apart at) (at .loop .inv .0) (ended k) (c .enum-told3 .given .1) (at .before .before .before .before .pre .1 .1 .1 .1), at .loop .inv .1, at .loop .inv .2)
+    (turns (apart at) (at .loop .inv .0) (ended k) (c .enum-told3 .given .1) (at .before .before .before .before .before .pre .1 .1 .1 .1), at .loop .inv .1, at .loop .inv .2)
 
 returns-2 : tie.Need-returns-2 Inv-loop μ-loop
 unfolding prefix-number
@@ -85,6 +85,7 @@ apply-parts-spec =
     (tie.spec
     Inv-loop
     μ-loop
+    (λ c κs. search needs)
     loop-holds
     (λ c κs. search needs)
     (λ c. search needs)

@@ -1,0 +1,2 @@
+-- What taking a chunk of a day does, past its first checks.
+pub mod Days

@@ -1,0 +1,3 @@
+-- What a record of a day says, and what a replay does.
+pub mod Messages
+pub mod Replaying

@@ -1,0 +1,2 @@
+-- The laws of reading what a record holds.
+pub mod Records

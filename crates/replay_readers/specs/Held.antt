@@ -1,0 +1,12 @@
+-- What a record holds, as the code answers it.
+use Prim.Native.Nat.{ℕ}
+use mathlib.Core.Bool.{cond}
+use mathlib.Core.List.{List}
+use Rattle.replay_format.specs.Messages.{message-from, too-short, holds-update}
+use Rattle.replay_readers.specs.declared.Held.{Held}
+use Rattle.replay_readers.specs.declared.Held.the-variants.{Update, Other, Fault}
+
+-- less than it should, or an UPDATE of IPv4 from its place on, or something else
+unfoldable pub record-held : (bytes : List ℕ) → Held
+record-held bytes =
+    cond (too-short bytes) Fault (cond (holds-update bytes) (Update (message-from bytes)) Other)

@@ -1,0 +1,2 @@
+-- What the reading of a record answers.
+pub mod Held

@@ -1,0 +1,2 @@
+-- What a step of the tally adds.
+pub mod Steps
