@@ -4,7 +4,8 @@
 #   make test                      every test; its last line is the verdict, 'N passed, 0 failed'
 #   make lib                       the proved library for C: target/staticlib/libgateway.a
 #   make examples                  C programs: target/forward forwards by a table, target/neighbour applies a
-#                                  neighbour's messages, and target/fill fills a table from dumps
+#                                  neighbour's messages, target/fill fills a table from dumps, and target/replay
+#                                  replays recorded days
 #   make install PREFIX=/usr/local header, archive and pkg-config file; DESTDIR is put before PREFIX
 #   make uninstall                 takes these three away again
 #   make settings                  measures which settings take how many routes, and what a D for each length
@@ -17,14 +18,14 @@
 #   make memory                    shows under valgrind that the library touches no byte that is not lent;
 #                                  SEED=1 fixes the calls, TABLES=1000 says how many tables they are of
 #   make edits                     runs each wrong edit of code, to show that it is a wrong program
-#   make bench                     the time of lookups, match vectors, updates, messages and imports beside
-#                                  calls written by hand in C, of lists beside single lookups, on tables with
-#                                  one D and with a D for each length, and the text program's beside the second
-#                                  program
+#   make bench                     the time of lookups, match vectors, updates, messages, imports and replays
+#                                  beside calls written by hand in C, of lists beside single lookups, on tables
+#                                  with one D and with a D for each length, and the text program's beside the
+#                                  second program
 #   make bench BEFORE=COMMIT       the time of all calls but change, clear, the end of a stream and the writing
 #                                  of withdrawals beside those of an earlier commit's library, which is proved
 #                                  and built first; one up to 0.5, with one D for all lengths, only on tables
-#                                  that have one, and messages and imports only if it has them
+#                                  that have one, and messages, imports and replays only if it has them
 #   make clean                     removes target/, where all of this is built
 #
 # Needed are the kit's command rt on the PATH (but for make settings and make clean), gcc for all that
@@ -60,9 +61,10 @@ lib: $(ARCHIVE)
 $(ARCHIVE): $(shell find crates crates.txt -type f)
 	@$(RT) staticlib gateway
 
-examples: target/forward target/neighbour target/fill
+examples: target/forward target/neighbour target/fill target/replay
 
-target/forward target/neighbour target/fill: target/%: examples/%.c examples/text.h include/gateway.h $(ARCHIVE)
+target/forward target/neighbour target/fill target/replay: target/%: \
+    examples/%.c examples/text.h examples/files.h include/gateway.h $(ARCHIVE)
 	$(CC) $(WARNINGS) $(CFLAGS) -Iinclude -o $@ $< $(ARCHIVE)
 
 INTO = $(DESTDIR)$(PREFIX)

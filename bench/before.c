@@ -2,8 +2,8 @@
  * Measures the library beside that of an earlier commit: the same calls on the same tables, in turns within one
  * run. The earlier one's functions are called before_lookup and so on, this one's now_lookup. Every answer of
  * the two is compared, and after updates every byte. Who goes first changes from round to round, and who has
- * which memory. Messages and imports are left out where the earlier library does not have them, and so are tables
- * with a D for each length. It is told whether the earlier one takes one D for all lengths, or a list.
+ * which memory. Messages, imports and replays are left out where the earlier library does not have them, and so are
+ * tables with a D for each length. It is told whether the earlier one takes one D for all lengths, or a list.
  *
  *     before NAME one-d|list
  */
@@ -22,6 +22,7 @@
     extern __typeof__(gateway_update) word##_update __attribute__((weak));                         \
     extern __typeof__(gateway_write_withdrawal) word##_write_withdrawal __attribute__((weak));     \
     extern __typeof__(gateway_import) word##_import __attribute__((weak));                         \
+    extern __typeof__(gateway_replay) word##_replay __attribute__((weak));                         \
     extern __typeof__(gateway_end_stream) word##_end_stream __attribute__((weak));                 \
     static struct calls word = CALLS_OF(word)
 
@@ -151,6 +152,30 @@ static void measure_imports(const struct table *t)
     take_back(&memory[1]);
 }
 
+static void measure_replays(const struct table *t)
+{
+    struct memory memory[BOTH] = {lend_table(t), lend_table(t)};
+    const uint32_t many = fill(t, &before, &memory[0], &now, &memory[1]);
+    choose_told(t, &before, &memory[0], &now, &memory[1]);
+
+    for (int i = 0; i < DAYS; i++) {
+        make_day(day_routes[i]);
+        for (int j = 0; j < CHUNKS; j++) {
+            double ns[BOTH] = {0};
+            for (int round = 0; round < ROUNDS; round++) {
+                IN_TURNS (turn, one)
+                    replay_each(&ns[one], t, &memory[turn], libraries[one], libraries[one]->replay, chunk_bytes[j]);
+                check_memory(&memory[0], &memory[1]);
+            }
+            char what[32];
+            snprintf(what, sizeof what, "replayed, %u, %u", (unsigned)day_routes[i], (unsigned)chunk_bytes[j]);
+            print_times(t, many, what, (const double[BOTH]){ns[0] / DAY_ROUTES, ns[1] / DAY_ROUTES});
+        }
+    }
+    take_back(&memory[0]);
+    take_back(&memory[1]);
+}
+
 static void measure(void (*each)(const struct table *), const struct table *tables, int many)
 {
     for (int i = 0; i < many; i++) {
@@ -174,6 +199,8 @@ int main(int argc, char **argv)
     printf("offered, stored: routes; short and long: lists of %d and of %d\n", SHORT_LIST, LONG_LIST);
     if (before.import != NULL)
         printf("imported: nanoseconds to a record of so many entries, in chunks of so many bytes\n");
+    if (before.replay != NULL)
+        printf("replayed: nanoseconds to a route, so many to an UPDATE, in chunks of so many bytes\n");
     printf("%s\n\n", before.one_d ? "the library before takes one D for all lengths, now it is a list of 32"
                                  : "D *: each length has the D that suits its routes, else all have the same");
     printf("offered  stored  K  D E S                          before ns  now ns  ratio\n");
@@ -183,6 +210,8 @@ int main(int argc, char **argv)
         measure(measure_messages, updated, TOLD_TABLES);
     if (before.import != NULL)
         measure(measure_imports, updated, IMPORT_TABLES);
+    if (before.replay != NULL)
+        measure(measure_replays, updated, TOLD_TABLES);
     printf("\nevery answer agrees, and every byte\n");
     return 0;
 }

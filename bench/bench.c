@@ -1,9 +1,9 @@
 /*
  * Measures the proved calls beside calls written by hand in C: lookups and match vectors of the same million
  * addresses, withdrawals and adds of the same routes, and adds that replace a route, on the same tables, in
- * turns within one run; a neighbour's messages; dumps that are imported; and the lookup of a list beside as many
- * single ones. Every answer of the two is compared, and after updates every byte. Settings are arguments to both,
- * so neither compiler knows them.
+ * turns within one run; a neighbour's messages; dumps that are imported and days that are replayed; and the lookup
+ * of a list beside as many single ones. Every answer of the two is compared, and after updates every byte. Settings
+ * are arguments to both, so neither compiler knows them.
  */
 #include "measure.h"
 #include "table.h"
@@ -176,6 +176,35 @@ static void measure_steps(const struct table *t)
     take_back(&memory);
 }
 
+static void measure_replays(const struct table *t)
+{
+    struct memory first = lend_table(t), second = lend_table(t);
+    uint32_t many = fill(t, &hand, &first, &proved, &second);
+    choose_told(t, &hand, &first, &proved, &second);
+
+    for (int i = 0; i < DAYS; i++) {
+        const size_t size = make_day(day_routes[i]);
+        for (int j = 0; j < CHUNKS; j++) {
+            const size_t chunk = chunk_bytes[j];
+            double hand_ns = 0, place_ns = 0, proved_ns = 0;
+            for (int round = 0; round < ROUNDS; round++) {
+                replay_each(&hand_ns, t, &first, &hand, hand.replay, chunk);
+                replay_each(&proved_ns, t, &second, &proved, proved.replay, chunk);
+                replay_each(&place_ns, t, &first, &hand, hand_replay_in_place, chunk);
+                check_memory(&first, &second);
+            }
+            print_table(t, many);
+            printf("  %6u  %5.0f  %5u  %7.1f  %9.1f  %5.2f  %8.1f  %5.2f  %6.1f  %6.1f  %6.0f  %6.0f\n",
+                   (unsigned)day_routes[i], (double)size * (double)day_routes[i] / DAY_ROUTES, (unsigned)chunk,
+                   hand_ns / DAY_ROUTES, proved_ns / DAY_ROUTES, proved_ns / hand_ns, place_ns / DAY_ROUTES,
+                   proved_ns / place_ns, 1e3 * DAY_ROUTES / hand_ns, 1e3 * DAY_ROUTES / proved_ns,
+                   1e3 * (double)size / hand_ns, 1e3 * (double)size / proved_ns);
+        }
+    }
+    take_back(&first);
+    take_back(&second);
+}
+
 static void measure_lists(const struct table *t)
 {
     struct memory first = lend_table(t), second = lend_table(t);
@@ -247,6 +276,16 @@ int main(void)
     printf("bytes: of a record's body on average; ratio: the proved time over hand's; read: every byte is summed up\n\n");
     printf("  bytes     hand   proved  ratio    read\n");
     measure_steps(&updated[0]);
+    printf("\nnanoseconds to a route of a recorded day, best of %d times, or of %d where there are many chunks, that\n",
+           ROUNDS * TIMES_IMPORTED, ROUNDS);
+    printf("the day is replayed: %d times %d routes, which find room, are announced, so many to an UPDATE, and then\n",
+           TIMES_A_DAY, TOLD);
+    printf("withdrawn; hand and in place: readers in C, as for imports\n");
+    printf("bytes: of a record on average; millions: so many routes a second; MB/s: of the day\n\n");
+    printf("%96s%s", "", "millions            MB/s\n");
+    printf("offered  stored  K  D E S  routes  bytes  chunk  hand ns  proved ns  ratio  in place  ratio  ");
+    printf("  hand  proved    hand  proved\n");
+    measure(measure_replays, updated, TOLD_TABLES);
     printf("\nnanoseconds to an address, best of %d rounds over %d addresses\n", ROUNDS, ADDRESSES);
     printf("single: a call to each; short and long: a call to each list of %d and of %d\n\n", SHORT_LIST, LONG_LIST);
     printf("offered  stored  K  D E S  single ns  short ns  ratio  long ns  ratio\n");

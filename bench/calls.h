@@ -14,6 +14,7 @@ struct calls {
     __typeof__(gateway_update) *update;
     __typeof__(gateway_write_withdrawal) *write_withdrawal;
     __typeof__(gateway_import) *import;
+    __typeof__(gateway_replay) *replay;
     __typeof__(gateway_end_stream) *end_stream;
     int one_d; /* whether they are of a library up to 0.5, which takes one D for all lengths */
 };
@@ -22,7 +23,8 @@ struct calls {
 #define CALLS_OF(word)                                                                             \
     {                                                                                              \
         word##_clear, word##_add, word##_withdraw, word##_change, word##_lookup, word##_match_vector, \
-            word##_lookup_list, word##_update, word##_write_withdrawal, word##_import, word##_end_stream, 0 \
+            word##_lookup_list, word##_update, word##_write_withdrawal, word##_import, word##_replay,  \
+            word##_end_stream, 0                                                                   \
     }
 
 #endif

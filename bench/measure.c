@@ -22,7 +22,7 @@ const struct table updated[TABLES] = {
     {6000, 4, 11, 8, 8}, {6000, 4, BY_LENGTH, 8, 8},
 };
 
-const size_t message_routes[SIZES] = {1, 10, TOLD};
+const size_t message_routes[SIZES] = {1, 10, TOLD}, day_routes[DAYS] = {1, 10};
 
 const size_t record_entries[DUMPS] = {1, 20}, chunk_bytes[CHUNKS] = {65536, 4096, 1},
              stepped_bodies[BODIES] = {100, 1500, 1 << 20};
@@ -370,7 +370,7 @@ void tell_each(double best[TELLINGS], const struct table *t, const struct memory
         check(*answer == TOLD / streams[ANNOUNCED].messages, "a message");
 }
 
-/* A dump, record by record. */
+/* A dump or a day, record by record. */
 static struct {
     uint8_t *bytes;
     size_t size;
@@ -381,11 +381,11 @@ static uint8_t *put_four(uint8_t *at, size_t number)
     return put_two(put_two(at, number >> 16), number & 0xffff);
 }
 
-/* Header: a time, type 13, the subtype, and the length of the body. */
-static uint8_t *put_header(uint8_t *at, size_t subtype, size_t body)
+/* Header: a time, type and subtype, and the length of the body. */
+static uint8_t *put_header(uint8_t *at, size_t type, size_t subtype, size_t body)
 {
     at = put_four(at, 1700000000);
-    at = put_two(at, 13);
+    at = put_two(at, type);
     at = put_two(at, subtype);
     return put_four(at, body);
 }
@@ -408,7 +408,7 @@ static uint8_t *put_route(uint8_t *from, size_t number, const struct route *r, s
     at = put_two(at, entries);
     for (size_t i = 0; i < entries; i++)
         at = put_entry(at, i);
-    put_header(from, 2, (size_t)(at - from) - 12);
+    put_header(from, 13, 2, (size_t)(at - from) - 12);
     return at;
 }
 
@@ -431,7 +431,7 @@ size_t make_other_dump(size_t body)
     uint8_t *at = begin_dump(STEPPED + 12 + 2 * body);
     while (at < dump.bytes + STEPPED) {
         const size_t size = random_below((uint32_t)(2 * body));
-        at = put_header(at, 1, size) + size;
+        at = put_header(at, 13, 1, size) + size;
     }
     return dump.size = (size_t)(at - dump.bytes);
 }
@@ -453,6 +453,49 @@ void import_each(double *best, const struct table *t, const struct memory *m, co
         refused |= calls->end_stream(stream.words);
         check(refused == 0, "an import");
         *counts = (struct gateway_counts){counted[0], counted[1], counted[2]};
+    }
+}
+
+/* AS numbers of four bytes, an interface, IPv4, both addresses, and a message. */
+static uint8_t *put_told(uint8_t *from, enum telling telling, const uint32_t *prefixes, size_t many)
+{
+    uint8_t *at = put_four(from + 12, 65000);
+    at = put_four(at, 65001);
+    at = put_two(at, 0);
+    at = put_two(at, 1);
+    at = put_four(at, 0x0a090901);
+    at = put_four(at, 0x0a0909fe);
+    at = put_message(at, telling, prefixes, many);
+    put_header(from, 16, 4, (size_t)(at - from) - 12);
+    return at;
+}
+
+size_t make_day(size_t many)
+{
+    uint8_t *at = begin_dump(DAY_ROUTES * 128);
+    for (size_t time = 0; time < TIMES_A_DAY; time++)
+        for (int telling = 0; telling < TELLINGS; telling++)
+            for (size_t i = 0; i < TOLD; i += many)
+                at = put_told(at, (enum telling)telling, &told[i], many);
+    return dump.size = (size_t)(at - dump.bytes);
+}
+
+void replay_each(double *best, const struct table *t, const struct memory *m, const struct calls *calls,
+                 __typeof__(gateway_replay) *call, size_t chunk)
+{
+    static struct gateway_stream stream;
+    const int times = dump.size / chunk > MANY_CHUNKS ? 1 : TIMES_IMPORTED;
+    for (int i = 0; i < times; i++) {
+        uint32_t tally[23] = {0};
+        uint64_t refused = 0;
+        memset(stream.words, 0, sizeof stream.words);
+        double start = nanoseconds();
+        for (size_t at = 0; at < dump.size; at += chunk)
+            refused |= CALL(calls, call, m, WORDS(m), next_hops, (size_t)HOPS, tally, stream.words, stream.room,
+                            dump.bytes + at, dump.size - at < chunk ? dump.size - at : chunk);
+        keep_best(best, start, 1);
+        refused |= calls->end_stream(stream.words);
+        check(refused == 0 && tally[0] == tally[1] && tally[2] == DAY_ROUTES, "a replay");
     }
 }
 

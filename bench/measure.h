@@ -22,6 +22,10 @@ enum { TOLD = 500, TIMES_TOLD = 100, SIZES = 3, TOLD_TABLES = 4 };
 enum { DUMPS = 2, CHUNKS = 3, TIMES_IMPORTED = 10, MANY_CHUNKS = 10000, IMPORT_TABLES = 4 };
 enum { BODIES = 3, STEPPED = 64 << 20 };
 
+/* Days of so many kinds are replayed in chunks of the same sizes. In a day a neighbour tells its routes and withdraws
+   them again, so many times. */
+enum { DAYS = 2, TIMES_A_DAY = 10 };
+
 /* So many routes are offered, and what the buckets have room for is stored. All lengths have the same D, or each
    has the one that suits its routes, which is printed as '*'. */
 struct table {
@@ -41,8 +45,8 @@ struct memory {
 /* The tables that are asked, and those that are updated. */
 extern const struct table asked[TABLES], updated[TABLES];
 
-/* How many routes a message has. */
-extern const size_t message_routes[SIZES];
+/* How many routes a message has, and how many one of a day. */
+extern const size_t message_routes[SIZES], day_routes[DAYS];
 
 /* How many entries a record of a dump has, how many bytes a chunk, and how many the body of a record that is stepped
    over. */
@@ -98,6 +102,18 @@ size_t make_other_dump(size_t body);
    what an import takes; keeps the best nanoseconds of one time, and what was counted. */
 void import_each(double *best, const struct table *t, const struct memory *m, const struct calls *calls,
                  __typeof__(gateway_import) *call, size_t chunk, struct gateway_counts *counts);
+
+/* Makes a day of the routes that a neighbour tells, so many to an UPDATE, which must divide them; answers how many
+   bytes it has. */
+size_t make_day(size_t many);
+
+/* How many routes a day announces and withdraws. */
+enum { DAY_ROUTES = TIMES_A_DAY * TELLINGS * TOLD };
+
+/* Replays the day in chunks of so many bytes into a table, which is then as it was, by one of the calls that take what
+   a replay takes; keeps the best nanoseconds of one time. Every route must be accepted. */
+void replay_each(double *best, const struct table *t, const struct memory *m, const struct calls *calls,
+                 __typeof__(gateway_replay) *call, size_t chunk);
 
 /* Reads every byte of the dump, and keeps the best nanoseconds. */
 void read_each(double *best);

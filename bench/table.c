@@ -438,7 +438,7 @@ static size_t octets_of(uint32_t length)
     return (length + 7) / 8;
 }
 
-static int prefixes_fit(const uint8_t *at, const uint8_t *end)
+static inline int prefixes_fit(const uint8_t *at, const uint8_t *end)
 {
     while (at < end) {
         if (*at > 32 || (size_t)(end - at) < 1 + octets_of(*at))
@@ -468,7 +468,7 @@ static int attributes_fit(const uint8_t *at, const uint8_t *end, struct parts *p
     return 1;
 }
 
-static int message_fits(const uint8_t *message, size_t bytes, struct parts *parts)
+static inline int message_fits(const uint8_t *message, size_t bytes, struct parts *parts)
 {
     static const uint8_t marker[16] = {255, 255, 255, 255, 255, 255, 255, 255,
                                        255, 255, 255, 255, 255, 255, 255, 255};
@@ -511,17 +511,16 @@ static inline const uint8_t *take_prefix(const uint8_t *at, uint32_t *prefix, ui
     return at + octets_of(*length);
 }
 
-uint64_t hand_update(uint32_t k, const uint8_t *d, size_t d_count, uint32_t e, uint32_t s,
-                     uint32_t a, uint32_t b, uint32_t c, uint8_t *counters, size_t counters_bytes,
-                     uint32_t *slots, size_t slots_words, const uint8_t *message,
-                     size_t message_bytes, const uint32_t *hops, size_t hops_words)
+/* A message on a table whose settings and sizes are right. What is refused under number n is also counted at place n of
+   under, unless that is NULL. */
+static inline uint64_t update(const struct settings *t, uint8_t *counters, size_t counters_bytes,
+                              uint32_t *slots, size_t slots_words, const uint8_t *message,
+                              size_t message_bytes, const uint32_t *hops, size_t hops_words,
+                              uint32_t *under)
 {
-    const struct settings t = {k, d, d_count, e, s, a, b, c};
     struct parts parts;
     uint32_t hop = 0, prefix, length;
-    uint64_t refused = 0, accepted = 0, refusal = refuse_memory(&t, counters_bytes, slots_words);
-    if (refusal != 0)
-        return REFUSED(refusal);
+    uint64_t refused = 0, accepted = 0, refusal;
     if (!message_fits(message, message_bytes, &parts))
         return REFUSED(12);
     if (parts.announced_from < message_bytes) {
@@ -531,17 +530,33 @@ uint64_t hand_update(uint32_t k, const uint8_t *d, size_t d_count, uint32_t e, u
     }
     for (const uint8_t *at = message + 21; at < message + parts.withdrawn_to;) {
         at = take_prefix(at, &prefix, &length);
-        refusal = withdraw(&t, counters, counters_bytes, slots, slots_words, prefix, length);
+        refusal = withdraw(t, counters, counters_bytes, slots, slots_words, prefix, length);
         accepted += refusal == 0;
         refused += refusal != 0;
+        if (under != NULL && refusal != 0)
+            under[refusal]++;
     }
     for (const uint8_t *at = message + parts.announced_from; at < message + message_bytes;) {
         at = take_prefix(at, &prefix, &length);
-        refusal = add_announced(&t, counters, counters_bytes, slots, slots_words, prefix, length, hop);
+        refusal = add_announced(t, counters, counters_bytes, slots, slots_words, prefix, length, hop);
         accepted += refusal == 0;
         refused += refusal != 0;
+        if (under != NULL && refusal != 0)
+            under[refusal]++;
     }
     return refused << 12 | accepted;
+}
+
+uint64_t hand_update(uint32_t k, const uint8_t *d, size_t d_count, uint32_t e, uint32_t s,
+                     uint32_t a, uint32_t b, uint32_t c, uint8_t *counters, size_t counters_bytes,
+                     uint32_t *slots, size_t slots_words, const uint8_t *message,
+                     size_t message_bytes, const uint32_t *hops, size_t hops_words)
+{
+    const struct settings t = {k, d, d_count, e, s, a, b, c};
+    uint64_t refusal = refuse_memory(&t, counters_bytes, slots_words);
+    if (refusal != 0)
+        return REFUSED(refusal);
+    return update(&t, counters, counters_bytes, slots, slots_words, message, message_bytes, hops, hops_words, NULL);
 }
 
 uint64_t hand_write_withdrawal(uint32_t prefix, uint32_t length, uint8_t *room, size_t room_bytes)
@@ -565,11 +580,19 @@ uint64_t hand_write_withdrawal(uint32_t prefix, uint32_t length, uint8_t *room, 
 
 enum { HEADER = 12, MOST_BODY = 65536, MOST_CHUNK = 65536 };
 
-/* Whether a record's header is that of a route: type 13, subtype 2. */
-static inline int is_route(const uint8_t *header)
+/* What records a stream has, and how many counts are kept of them. */
+enum stream { DUMP, DAY };
+
+static const size_t counts_of[] = {[DUMP] = 3, [DAY] = 23};
+
+/* Whether a record is read, by its header: the route of a dump is type 13, subtype 2; the message of a day type 16,
+   subtype 1 or 4. */
+static inline int is_read(enum stream what, const uint8_t *header)
 {
-    static const uint8_t kind[] = {0, 13, 0, 2};
-    return memcmp(header + 4, kind, sizeof kind) == 0;
+    static const uint8_t route[] = {0, 13, 0, 2}, message[] = {0, 16, 0, 1}, as4[] = {0, 16, 0, 4};
+    if (what == DUMP)
+        return memcmp(header + 4, route, sizeof route) == 0;
+    return memcmp(header + 4, as4, sizeof as4) == 0 || memcmp(header + 4, message, sizeof message) == 0;
 }
 
 static inline size_t body_size(const uint8_t *header)
@@ -577,13 +600,14 @@ static inline size_t body_size(const uint8_t *header)
     return two_bytes(header + 8) << 16 | two_bytes(header + 10);
 }
 
-/* Checks the body of a record, and adds its route; 0 if it is not well-formed. */
-static inline int do_record(const struct settings *t, uint8_t *counters, size_t counters_bytes,
-                            uint32_t *slots, size_t slots_words, const uint32_t *hops, size_t hops_words,
-                            uint32_t counts[3], const uint8_t *body, size_t size)
+/* Checks the record of a route, and adds it; 0 if it is not well-formed. */
+static inline int do_route(const struct settings *t, uint8_t *counters, size_t counters_bytes,
+                           uint32_t *slots, size_t slots_words, const uint32_t *hops, size_t hops_words,
+                           uint32_t *counts, const uint8_t *record, size_t size)
 {
-    const uint8_t *end = body + size, *at;
+    const uint8_t *body = record + HEADER, *end = record + size, *at;
     uint32_t prefix, length, hop = NO_PLACE;
+    size -= HEADER;
     if (size < 5 || body[4] > 32 || size < 7 + octets_of(body[4]))
         return 0;
     at = take_prefix(body + 4, &prefix, &length);
@@ -611,24 +635,54 @@ static inline int do_record(const struct settings *t, uint8_t *counters, size_t 
     return 1;
 }
 
+/* Checks the record of a message, and applies it if it is an UPDATE between addresses of IPv4; 0 if it is too short, or
+   its UPDATE not well-formed. The tally is records, UPDATEs, routes accepted, and those refused under each number. */
+static inline int do_message(const struct settings *t, uint8_t *counters, size_t counters_bytes,
+                             uint32_t *slots, size_t slots_words, const uint32_t *hops, size_t hops_words,
+                             uint32_t *tally, const uint8_t *record, size_t size)
+{
+    const size_t family = record[7] == 1 ? HEADER + 6 : HEADER + 10, message = family + 10;
+    if (size < family + 2)
+        return 0;
+    if (two_bytes(record + family) == 1) {
+        if (size < message + 19)
+            return 0;
+        if (record[message + 18] == 2) {
+            const uint64_t given = update(t, counters, counters_bytes, slots, slots_words, record + message,
+                                          size - message, hops, hops_words, tally + 3);
+            if (given == REFUSED(12))
+                return 0;
+            if (given != REFUSED(13)) {
+                tally[1]++;
+                tally[2] += (uint32_t)given & 0xfff;
+            }
+        }
+    }
+    tally[0]++;
+    return 1;
+}
+
 /* Takes the bytes of a chunk in runs. In place a record that lies within the chunk is done where it lies; else each is
    copied into the room first. */
-static inline uint64_t import(const struct settings *t, uint8_t *counters, size_t counters_bytes,
-                              uint32_t *slots, size_t slots_words, const uint32_t *hops,
-                              size_t hops_words, uint32_t counts[3], uint32_t words[3], uint8_t *room,
-                              const uint8_t *chunk, size_t chunk_bytes, int in_place)
+static inline uint64_t take_chunk(enum stream what, const struct settings *t, uint8_t *counters,
+                                  size_t counters_bytes, uint32_t *slots, size_t slots_words,
+                                  const uint32_t *hops, size_t hops_words, uint32_t *counts,
+                                  uint32_t words[3], uint8_t *room, const uint8_t *chunk,
+                                  size_t chunk_bytes, int in_place)
 {
-    const uint32_t most_counted = 4000000000u;
     size_t kept = words[1], left = words[2], at = 0;
     uint64_t number;
     if (words[0] != 0)
         return REFUSED((words[0] - 1) & 0xffff);
-    if (chunk_bytes > MOST_CHUNK || counts[0] > most_counted || counts[1] > most_counted || counts[2] > most_counted)
+    if (chunk_bytes > MOST_CHUNK)
         return REFUSED(19);
+    for (size_t i = 0; i < counts_of[what]; i++)
+        if (counts[i] > 4000000000u)
+            return REFUSED(19);
     number = refuse_memory(t, counters_bytes, slots_words);
     if (number != 0)
         return REFUSED(number);
-    if (left == 0 ? kept >= HEADER : kept < HEADER || kept + left > HEADER + MOST_BODY || !is_route(room))
+    if (left == 0 ? kept >= HEADER : kept < HEADER || kept + left > HEADER + MOST_BODY || !is_read(what, room))
         kept = 0;
     while (at < chunk_bytes) {
         size_t more = chunk_bytes - at;
@@ -652,7 +706,7 @@ static inline uint64_t import(const struct settings *t, uint8_t *counters, size_
             kept = HEADER;
             left = body_size(record);
             more = chunk_bytes - at;
-            if (!is_route(record)) {
+            if (!is_read(what, record)) {
                 kept = 0;
             } else if (left > MOST_BODY) {
                 number = 14;
@@ -671,6 +725,8 @@ static inline uint64_t import(const struct settings *t, uint8_t *counters, size_
             size_t stepped = more < left ? more : left;
             at += stepped;
             left -= stepped;
+            if (what == DAY && left == 0)
+                counts[0]++;
             continue;
         }
         if (left != 0) {
@@ -682,8 +738,8 @@ static inline uint64_t import(const struct settings *t, uint8_t *counters, size_
             if (left != 0)
                 break;
         }
-        if (!do_record(t, counters, counters_bytes, slots, slots_words, hops, hops_words, counts, record + HEADER,
-                       kept - HEADER)) {
+        if (!(what == DUMP ? do_route : do_message)(t, counters, counters_bytes, slots, slots_words, hops, hops_words,
+                                                    counts, record, kept)) {
             number = 12;
             break;
         }
@@ -695,19 +751,21 @@ static inline uint64_t import(const struct settings *t, uint8_t *counters, size_
     return REFUSED(number);
 }
 
-#define IMPORT(name, in_place)                                                                     \
+#define TAKE_CHUNK(name, what, many, in_place)                                                     \
     uint64_t name(uint32_t k, const uint8_t *d, size_t d_count, uint32_t e, uint32_t s, uint32_t a, \
                   uint32_t b, uint32_t c, uint8_t *counters, size_t counters_bytes, uint32_t *slots, \
-                  size_t slots_words, const uint32_t *hops, size_t hops_words, uint32_t counts[3], \
+                  size_t slots_words, const uint32_t *hops, size_t hops_words, uint32_t counts[many], \
                   uint32_t words[3], uint8_t room[65548], const uint8_t *chunk, size_t chunk_bytes) \
     {                                                                                              \
         const struct settings t = {k, d, d_count, e, s, a, b, c};                                  \
-        return import(&t, counters, counters_bytes, slots, slots_words, hops, hops_words, counts,  \
-                      words, room, chunk, chunk_bytes, in_place);                                  \
+        return take_chunk(what, &t, counters, counters_bytes, slots, slots_words, hops, hops_words, counts, \
+                          words, room, chunk, chunk_bytes, in_place);                              \
     }
 
-IMPORT(hand_import, 0)
-IMPORT(hand_import_in_place, 1)
+TAKE_CHUNK(hand_import, DUMP, 3, 0)
+TAKE_CHUNK(hand_import_in_place, DUMP, 3, 1)
+TAKE_CHUNK(hand_replay, DAY, 23, 0)
+TAKE_CHUNK(hand_replay_in_place, DAY, 23, 1)
 
 uint64_t hand_end_stream(uint32_t words[3])
 {

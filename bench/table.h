@@ -67,6 +67,19 @@ uint64_t hand_import_in_place(uint32_t k, const uint8_t *d, size_t d_count, uint
                               uint32_t words[3], uint8_t room[65548], const uint8_t *chunk,
                               size_t chunk_bytes);
 
+/* Both ways with the records of a day. */
+uint64_t hand_replay(uint32_t k, const uint8_t *d, size_t d_count, uint32_t e, uint32_t s, uint32_t a,
+                     uint32_t b, uint32_t c, uint8_t *counters, size_t counters_bytes, uint32_t *slots,
+                     size_t slots_words, const uint32_t *hops, size_t hops_words, uint32_t tally[23],
+                     uint32_t words[3], uint8_t room[65548], const uint8_t *chunk, size_t chunk_bytes);
+
+uint64_t hand_replay_in_place(uint32_t k, const uint8_t *d, size_t d_count, uint32_t e, uint32_t s,
+                              uint32_t a, uint32_t b, uint32_t c, uint8_t *counters,
+                              size_t counters_bytes, uint32_t *slots, size_t slots_words,
+                              const uint32_t *hops, size_t hops_words, uint32_t tally[23],
+                              uint32_t words[3], uint8_t room[65548], const uint8_t *chunk,
+                              size_t chunk_bytes);
+
 uint64_t hand_end_stream(uint32_t words[3]);
 
 /* The same answers as of hand_lookup, but a length's filter is asked only when the search gets there. */

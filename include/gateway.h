@@ -49,17 +49,27 @@
  * counts then has how many routes were accepted, how many refused, and how many records had no next hop of the
  * list.
  *
+ * Where such a file has what neighbours sent on a day, message after message, replay it in the same way: each UPDATE
+ * is applied as by gateway_table_update. Each file has a stream of its own; do not mix imports and replays on one.
+ *
+ *     struct gateway_tally tally = {0, 0, 0, {0}};
+ *
+ *     refusal = gateway_table_replay(&table, &stream, &tally, hops, 2, chunk, size);
+ *
+ * tally then has how many records were seen, how many UPDATEs were applied, how many routes were accepted, and how
+ * many were refused for what reason: tally.refused[GATEWAY_BUCKET_FULL] for a full bucket.
+ *
  * An address or prefix is a 32-bit number with its first octet highest: 10.0.0.0 is 0x0a000000. A
  * route is a prefix, its length (0 to 32, 0 being the default route) and its next hop (0 to 65535).
  *
  * Every call checks what it is given. The first of the GATEWAY_ refusals below whose condition holds
- * is answered, with zero for everything else, and no lent byte or word is changed; only a dump may be refused
- * at a record, with those before it done (gateway_import says how). What no call can check: each pointer must
- * lead to as much memory as the size beside it says (beside 0 it may be NULL), the lists that a call is lent
- * must not overlap, the words of an update, of counts and of a stream and the list of next hops must be
- * aligned as uint32_t, and a table must be asked and updated under the settings that it was cleared with,
- * each of the 32 values of d among them. Lookups may run at the same time, those of a list each into results
- * of its own; an update must run alone, and so must a message and a chunk of a dump.
+ * is answered, with zero for everything else, and no lent byte or word is changed; only a dump or a day may be
+ * refused at a record, with those before it done (gateway_import and gateway_replay say how). What no call can
+ * check: each pointer must lead to as much memory as the size beside it says (beside 0 it may be NULL), the lists
+ * that a call is lent must not overlap, the words of an update, of counts, of a tally and of a stream and the list
+ * of next hops must be aligned as uint32_t, and a table must be asked and updated under the settings that it was
+ * cleared with, each of the 32 values of d among them. Lookups may run at the same time, those of a list each into
+ * results of its own; an update must run alone, and so must a message and a chunk of a dump or of a day.
  *
  * What is proved of these calls: whatever a program does with them after an accepted clear is a history
  * (crates/c_promises/proofs/Seat.antt), of which crates/promises/proofs/Promises.antt states every promise;
@@ -127,7 +137,7 @@ extern "C" {
 #endif
 
 /* The version of this header, of its archive and of its pkg-config file; CHANGELOG.md lists the versions. */
-#define GATEWAY_VERSION "0.8.0"
+#define GATEWAY_VERSION "0.9.0"
 
 /* An answer that is not looked at is a refusal that nobody sees: the compiler warns of it. */
 #if defined(__GNUC__)
@@ -152,14 +162,16 @@ enum {
     GATEWAY_COUNTER_SHORT = 10, /* withdraw: a counter would pass below 0; the memory is damaged */
     GATEWAY_ODD_PREFIX = 11,    /* add: the prefix lies wholly in 127.0.0.0/8 or in 224.0.0.0/4 */
     GATEWAY_BAD_MESSAGE = 12,   /* message: it is no UPDATE, or not well-formed; dump: the record of a route is
+                                   not well-formed; day: the record of a message is too short, or its UPDATE is
                                    not well-formed */
     GATEWAY_BAD_NEXT_HOP = 13,  /* message that announces: NEXT_HOP is missing, not in the list of next hops,
-                                   or at a place above 65535 there */
-    GATEWAY_LONG_RECORD = 14,   /* dump: the record of a route has a body above 65536 bytes */
+                                   or at a place above 65535 there; a day goes on after such a message */
+    GATEWAY_LONG_RECORD = 14,   /* dump: the record of a route has a body above 65536 bytes; day: that of a
+                                   message has */
     GATEWAY_INSIDE_RECORD = 17, /* end of a stream: the last record is not complete */
     GATEWAY_BAD_LIST = 18,      /* lookup list: no whole addresses, or not four result words to each;
                                    withdrawal: the room is not of exactly the message's size */
-    GATEWAY_BAD_CHUNK = 19      /* dump: the chunk is above 65536 bytes, or a count above 4000000000 */
+    GATEWAY_BAD_CHUNK = 19      /* dump, day: the chunk is above 65536 bytes, or a count above 4000000000 */
 };
 
 /* A refusal in words. */
@@ -259,8 +271,8 @@ static inline size_t gateway_withdrawal_bytes(uint32_t length)
     return length > 32 ? 0 : GATEWAY_WITHDRAWAL_BYTES(length);
 }
 
-/* The most bytes that a chunk of a dump may have, and those that a stream has room for: a record's header of 12
-   bytes and a body of 65536. */
+/* The most bytes that a chunk of a dump or of a day may have, and those that a stream has room for: a record's
+   header of 12 bytes and a body of 65536. */
 #define GATEWAY_CHUNK_BYTES 65536
 #define GATEWAY_RECORD_BYTES 65548
 
@@ -327,9 +339,10 @@ struct gateway_report {
 };
 
 /*
- * What is kept of a dump between two chunks. Zeros in the words begin a stream, whatever the room holds; nothing
- * else need be set or looked at. Every chunk writes to it, so it is never const. It serves one dump at a time, and
- * is begun anew for the next. Static memory begins with zeros.
+ * What is kept of a dump or of a day between two chunks. Zeros in the words begin a stream, whatever the room
+ * holds; nothing else need be set or looked at. Every chunk writes to it, so it is never const. It serves one file
+ * at a time, by imports or by replays and not by both, and is begun anew for the next. Static memory begins with
+ * zeros.
  */
 struct gateway_stream {
     uint32_t words[3];
@@ -342,6 +355,17 @@ struct gateway_counts {
     uint32_t accepted;    /* how many routes the table took */
     uint32_t refused;     /* how many it refused; they are skipped */
     uint32_t without_hop; /* how many records had no next hop of the list; they do nothing */
+};
+
+/* What a replay counts. All are zero at first, or go on from another day; none may be above 4000000000 when a chunk
+   is lent. A route is refused under GATEWAY_NOT_STORED, GATEWAY_BUCKET_FULL, GATEWAY_COUNTER_FULL or
+   GATEWAY_ODD_PREFIX, or under GATEWAY_COUNTER_SHORT where memory is damaged; the figures for the other numbers
+   stay as they are. */
+struct gateway_tally {
+    uint32_t seen;        /* how many records there were, of any kind */
+    uint32_t applied;     /* how many UPDATEs were applied */
+    uint32_t accepted;    /* how many of their routes the table took, withdrawn and announced ones */
+    uint32_t refused[20]; /* how many it refused under each number, refused[n] under n; they are skipped */
 };
 
 /*
@@ -470,6 +494,46 @@ GATEWAY_ANSWERS uint64_t gateway_import(uint32_t k, const uint8_t *d, size_t d_c
                                         uint32_t a, uint32_t b, uint32_t c, uint8_t *counters,
                                         size_t counters_bytes, uint32_t *slots, size_t slots_words,
                                         const uint32_t *hops, size_t hops_words, uint32_t counts[3],
+                                        uint32_t words[3], uint8_t room[GATEWAY_RECORD_BYTES],
+                                        const uint8_t *chunk, size_t chunk_bytes);
+
+/*
+ * Takes one chunk of a recorded day, a file of MRT records (RFC 6396), unpacked. Records of type 16 and of subtype
+ * 1 or 4 are read: each has one message that a neighbour sent, after two AS numbers, of two bytes each in subtype 1
+ * and of four in subtype 4, and the addresses of both ends. If these are of IPv4 (address family 1) and the message
+ * is an UPDATE, by its byte 18, it is applied as by gateway_update as soon as its record's last byte has come.
+ *
+ * Every record is counted as seen as soon as it is complete. Seen and not applied, with nothing else of them looked
+ * at, are records of any other kind, however long they are, those of type 17 (times in microseconds) and changes of
+ * a session's state among them; records with addresses of another family, such as IPv6, whatever routes they may
+ * have; and messages of another type, whatever else is in them. An UPDATE that gateway_update refuses as
+ * GATEWAY_BAD_NEXT_HOP is seen and not applied either. The routes of an UPDATE that is applied are counted as
+ * accepted, or as refused under the number that gateway_withdraw or gateway_add gives.
+ *
+ * tally is the 23 words of gateway_tally in their order, and goes up from what it holds. For hops, words, room and
+ * chunk all is as for gateway_import. Table, tally and the last number are the same for all cuts of a day into
+ * chunks.
+ *
+ * Of the answer only gateway_refusal is ever other than zero. In this order it is
+ *
+ * - the number that ended the stream, GATEWAY_OK too, if it has ended. Nothing is changed. So begin a stream anew,
+ *   by zeros in its words, after an end, GATEWAY_LONG_RECORD and GATEWAY_BAD_MESSAGE;
+ * - GATEWAY_BAD_CHUNK, if the chunk has more than GATEWAY_CHUNK_BYTES or a figure of the tally is above 4000000000,
+ *   then GATEWAY_BAD_SETTINGS, then GATEWAY_BAD_SIZE. Nothing is changed, and the replay can go on with a better
+ *   chunk;
+ * - GATEWAY_LONG_RECORD, at the first record that is read whose body is longer than 65536 bytes, with its header's
+ *   last byte; or GATEWAY_BAD_MESSAGE, at the first whose body ends before its address family does or, with IPv4,
+ *   before both addresses and the 19 bytes of a message's header do, or whose UPDATE gateway_update refuses as
+ *   GATEWAY_BAD_MESSAGE. This ends the replay. That record is not seen. The records before it stay done and
+ *   counted, those of this chunk too, and nothing that follows is done.
+ *
+ * Half a record that another kind of call has left in the stream means nothing here: its rest is stepped over, and
+ * it is seen.
+ */
+GATEWAY_ANSWERS uint64_t gateway_replay(uint32_t k, const uint8_t *d, size_t d_count, uint32_t e, uint32_t s,
+                                        uint32_t a, uint32_t b, uint32_t c, uint8_t *counters,
+                                        size_t counters_bytes, uint32_t *slots, size_t slots_words,
+                                        const uint32_t *hops, size_t hops_words, uint32_t tally[23],
                                         uint32_t words[3], uint8_t room[GATEWAY_RECORD_BYTES],
                                         const uint8_t *chunk, size_t chunk_bytes);
 
@@ -645,6 +709,26 @@ gateway_table_import(struct gateway_table *table, struct gateway_stream *stream,
     counts->accepted = words[0];
     counts->refused = words[1];
     counts->without_hop = words[2];
+    return gateway_refusal(number);
+}
+
+/* Takes one chunk of a recorded day, as gateway_replay says: hops are hops_count addresses, and the tally goes up
+   by what the records that are complete with this chunk are and did. One stream is one file. */
+GATEWAY_ANSWERS static inline uint32_t
+gateway_table_replay(struct gateway_table *table, struct gateway_stream *stream, struct gateway_tally *tally,
+                     const uint32_t *hops, size_t hops_count, const uint8_t *chunk, size_t chunk_bytes)
+{
+    uint32_t words[23] = {tally->seen, tally->applied, tally->accepted};
+    for (size_t i = 0; i < 20; i++)
+        words[3 + i] = tally->refused[i];
+    const uint64_t number =
+        gateway_replay(GATEWAY_SETTINGS_OF(table), GATEWAY_WORDS_OF(table), hops, hops_count, words,
+                       stream->words, stream->room, chunk, chunk_bytes);
+    tally->seen = words[0];
+    tally->applied = words[1];
+    tally->accepted = words[2];
+    for (size_t i = 0; i < 20; i++)
+        tally->refused[i] = words[3 + i];
     return gateway_refusal(number);
 }
 

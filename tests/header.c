@@ -132,8 +132,12 @@ int main(void)
     CHECK(GATEWAY_CHUNK_BYTES == 65536 && GATEWAY_RECORD_BYTES == 12 + 65536);
     CHECK(sizeof(struct gateway_stream) == 12 + 65548 && offsetof(struct gateway_stream, room) == 12);
     CHECK(sizeof(struct gateway_counts) == 12);
+    CHECK(sizeof(struct gateway_tally) == 4 * 23 && offsetof(struct gateway_tally, refused) == 12);
+    CHECK(offsetof(struct gateway_tally, applied) == 4 && offsetof(struct gateway_tally, accepted) == 8);
     static struct gateway_stream stream;
     CHECK(stream.words[0] == 0 && stream.words[1] == 0 && stream.words[2] == 0);
+    const struct gateway_tally tally = {0, 0, 0, {0}};
+    CHECK(sizeof tally.refused / sizeof tally.refused[0] == GATEWAY_BAD_CHUNK + 1); /* the highest number */
 
     /* Four words to a result, with nothing between them. */
     const struct gateway_result results[2] = {{1, 2, 3, 4}, {5, 6, 7, 8}};

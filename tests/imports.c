@@ -4,6 +4,7 @@
  * on memory of the same contents. Margins lie between the lists that are lent, and no call may touch them.
  */
 #include "check.h"
+#include "records.h"
 
 #include <gateway.h>
 
@@ -56,90 +57,18 @@ static struct gateway_table cleared(void)
     return table;
 }
 
-/* 10.9.9.1 is hop 1, its lowest place. */
-static const uint32_t hops[] = {7, 0x0a090901, 0x0a090901, 0x0a090902};
-enum { HOPS = sizeof hops / sizeof hops[0] };
-
-#define NEXT_HOP "40 03 04 0a 09 09 01 "
-#define OTHER_HOP "40 03 04 0a 09 09 02 "
-#define UNKNOWN_HOP "40 03 04 0a 09 09 03 "
-#define ORIGIN "40 01 01 00 "
-#define AS_PATH "40 02 0a 02 02 00 00 fd e8 00 00 fd e9 "
-
 /* Types and subtypes of records: the peers and the routes of a dump, and a message that was seen. */
 #define PEERS "00 0d 00 01 "
 #define ROUTE "00 0d 00 02 "
 #define MESSAGE "00 10 00 04 "
 
-enum { HEADER = 12, MOST_BODY = 65536, MOST_RECORDS = 16 };
-
-/* Records one after the other, and where each starts. */
-struct dump {
-    uint8_t bytes[2 * (HEADER + MOST_BODY)];
-    size_t size, starts[MOST_RECORDS + 1], records;
-};
-
-static struct dump dump;
-
-static void put(const char *hex)
-{
-    while (*hex != '\0') {
-        char *end;
-        dump.bytes[dump.size++] = (uint8_t)strtoul(hex, &end, 16);
-        for (hex = end; *hex == ' '; hex++)
-            ;
-    }
-}
-
-static void put_zeros(size_t many)
-{
-    memset(dump.bytes + dump.size, 0, many);
-    dump.size += many;
-}
-
-/* A number of so many bytes, the first one the highest. */
-static void write_number(size_t at, size_t bytes, size_t number)
-{
-    for (; bytes > 0; number >>= 8)
-        dump.bytes[at + --bytes] = (uint8_t)number;
-}
-
-static void empty_dump(void)
-{
-    dump.size = dump.records = 0;
-}
-
-/* Begins a record of this type and subtype: what is put next is its body. */
-static void begin_record(const char *kind)
-{
-    dump.starts[dump.records++] = dump.size;
-    put("65 00 00 01");
-    put(kind);
-    put_zeros(4);
-}
-
-/* The record is complete, and says how long its body is. */
-static void end_record(void)
-{
-    const size_t start = dump.starts[dump.records - 1];
-    write_number(start + 8, 4, dump.size - start - HEADER);
-    dump.starts[dump.records] = dump.size;
-}
-
-static void put_record(const char *kind, const char *body)
-{
-    begin_record(kind);
-    put(body);
-    end_record();
-}
-
 /* An entry of a neighbour with these attributes. */
 static void put_entry(const char *attributes)
 {
     put("00 01 65 00 00 00 00 00");
-    const size_t from = dump.size;
+    const size_t from = file.size;
     put(attributes);
-    write_number(from - 2, 2, dump.size - from);
+    write_number(from - 2, 2, file.size - from);
 }
 
 /* The record of a route: its prefix, and up to three entries by their attributes. */
@@ -150,8 +79,8 @@ static void put_route(const char *prefix, const char *first, const char *second,
     begin_record(ROUTE);
     put("00 00 00 09");
     put(prefix);
-    put_zeros(2);
-    const size_t count = dump.size - 2;
+    put_bytes(0, 2);
+    const size_t count = file.size - 2;
     for (; many < 3 && entries[many] != NULL; many++)
         put_entry(entries[many]);
     write_number(count, 2, many);
@@ -205,7 +134,7 @@ static int refuses(struct gateway_table table, const uint8_t *chunk, size_t size
 /* The whole dump in one chunk. */
 static int imports(struct gateway_table table, uint32_t refusal)
 {
-    return gives(table, dump.bytes, dump.size, refusal);
+    return gives(table, file.bytes, file.size, refusal);
 }
 
 /* Whether both functions give this number to the end, and leave the same words, and nothing else otherwise. */
@@ -251,7 +180,7 @@ static int goes_nowhere(struct gateway_table table, uint32_t address)
 /* Four routes that are accepted, one for which its bucket is full, two without a hop, and records of other kinds. */
 static void make_worked(void)
 {
-    empty_dump();
+    empty_file();
     put_record(PEERS, "01 02 03 04 05");
     put_route("08 0a", ORIGIN AS_PATH NEXT_HOP, NULL, NULL);
     put_route("10 0a 01", UNKNOWN_HOP, ORIGIN, ORIGIN OTHER_HOP AS_PATH);
@@ -285,30 +214,21 @@ static void run_worked(void)
     begin();
     CHECK(refuses(table, NULL, 0, GATEWAY_OK) && ends(GATEWAY_OK));
     begin();
-    empty_dump();
+    empty_file();
     put_record(MESSAGE, "01");
     CHECK(imports(table, GATEWAY_OK) && counted(0, 0, 0) && ends(GATEWAY_OK));
-}
-
-/* Which record a place of the dump lies within, or after. */
-static size_t record_at(size_t place)
-{
-    size_t i = 0;
-    while (i + 1 < dump.records && dump.starts[i + 1] <= place)
-        i++;
-    return i;
 }
 
 static int is_route(size_t record)
 {
     const uint8_t kind[] = {0, 13, 0, 2};
-    return memcmp(dump.bytes + dump.starts[record] + 4, kind, sizeof kind) == 0;
+    return memcmp(file.bytes + file.starts[record] + 4, kind, sizeof kind) == 0;
 }
 
 /* Whether the stream stands as it must where so many bytes of the dump have come, and ends as it must there. */
 static int stands_at(size_t place)
 {
-    const size_t record = record_at(place), start = dump.starts[record], end = dump.starts[record + 1];
+    const size_t record = record_at(place), start = file.starts[record], end = file.starts[record + 1];
     const size_t read = place - start;
     uint32_t words[3] = {0, 0, 0};
     const int inside = read > 0 && place < end;
@@ -318,7 +238,7 @@ static int stands_at(size_t place)
         words[2] = (uint32_t)(end - place);
     if (inside && read >= HEADER && is_route(record))
         words[1] = (uint32_t)read;
-    if (!has_words(0, words[1], words[2]) || memcmp(lent.stream.room, dump.bytes + start, words[1]) != 0)
+    if (!has_words(0, words[1], words[2]) || memcmp(lent.stream.room, file.bytes + start, words[1]) != 0)
         return 0;
     const struct lent here = lent;
     const int right = ends(inside ? GATEWAY_INSIDE_RECORD : GATEWAY_OK) && has_words(inside ? 18 : 1, 0, 0);
@@ -333,17 +253,17 @@ static void run_cuts(void)
     make_worked();
     CHECK(imports(table, GATEWAY_OK));
     const struct lent whole = lent;
-    for (size_t place = 0; place <= dump.size; place++) {
+    for (size_t place = 0; place <= file.size; place++) {
         table = cleared();
-        CHECK(gives(table, dump.bytes, place, GATEWAY_OK) && stands_at(place));
+        CHECK(gives(table, file.bytes, place, GATEWAY_OK) && stands_at(place));
         CHECK(refuses(table, NULL, 0, GATEWAY_OK)); /* no bytes are a chunk */
-        CHECK(gives(table, dump.bytes + place, dump.size - place, GATEWAY_OK));
+        CHECK(gives(table, file.bytes + place, file.size - place, GATEWAY_OK));
         CHECK(same(&lent, &whole) && is_worked(table));
     }
-    for (size_t chunk = 1; chunk < dump.size; chunk++) {
+    for (size_t chunk = 1; chunk < file.size; chunk++) {
         table = cleared();
-        for (size_t at = 0; at < dump.size; at += chunk)
-            CHECK(gives(table, dump.bytes + at, dump.size - at < chunk ? dump.size - at : chunk, GATEWAY_OK));
+        for (size_t at = 0; at < file.size; at += chunk)
+            CHECK(gives(table, file.bytes + at, file.size - at < chunk ? file.size - at : chunk, GATEWAY_OK));
         CHECK(same(&lent, &whole) && is_worked(table) && ends(GATEWAY_OK));
     }
 }
@@ -360,7 +280,7 @@ static void run_lengths(void)
         snprintf(hex, sizeof hex, "%02x %02x %02x %02x %02x", (unsigned)length, (unsigned)(octets >> 24),
                  (unsigned)(octets >> 16 & 255), (unsigned)(octets >> 8 & 255), (unsigned)(octets & 255));
         hex[2 + 3 * ((length + 7) / 8)] = '\0';
-        empty_dump();
+        empty_file();
         put_good(hex);
         CHECK(imports(table, GATEWAY_OK) && counted(1, 0, 0) && goes_to(table, 0xa5a5a5a5, 1, length));
         CHECK(gateway_table_withdraw(&table, prefix, length) == GATEWAY_OK && goes_nowhere(table, 0xa5a5a5a5));
@@ -371,7 +291,7 @@ static void run_lengths(void)
 static void run_refused(void)
 {
     struct gateway_table table = cleared();
-    empty_dump();
+    empty_file();
     put_good("08 0a");
     put_good("08 08");
     put_good("08 09");
@@ -383,7 +303,7 @@ static void run_refused(void)
     table = cleared();
     table.settings.k = 8;
     table.settings.a = table.settings.b = 0;
-    empty_dump();
+    empty_file();
     put_good("20 00 00 00 01");
     put_good("20 00 00 00 02");
     put_good("20 80 00 00 01");
@@ -396,7 +316,7 @@ static void run_hops(void)
     enum { MANY = 65538 };
     static uint32_t list[MANY];
     struct gateway_table table = cleared();
-    empty_dump();
+    empty_file();
     put_route("08 0a", NEXT_HOP, OTHER_HOP, NULL);
     put_route("08 08", OTHER_HOP, NEXT_HOP, NULL);
     put_route("08 c0", UNKNOWN_HOP, "", OTHER_HOP);
@@ -406,22 +326,22 @@ static void run_hops(void)
     CHECK(goes_nowhere(table, 0xc1010203));
 
     table = cleared();
-    CHECK(gives_by(table, NULL, 0, dump.bytes, dump.size, GATEWAY_OK) && counted(0, 0, 4));
-    CHECK(gives_by(table, hops, 1, dump.bytes, dump.size, GATEWAY_OK) && counted(0, 0, 8));
-    CHECK(gives_by(table, hops, 2, dump.bytes, dump.size, GATEWAY_OK) && counted(2, 0, 10));
+    CHECK(gives_by(table, NULL, 0, file.bytes, file.size, GATEWAY_OK) && counted(0, 0, 4));
+    CHECK(gives_by(table, hops, 1, file.bytes, file.size, GATEWAY_OK) && counted(0, 0, 8));
+    CHECK(gives_by(table, hops, 2, file.bytes, file.size, GATEWAY_OK) && counted(2, 0, 10));
     CHECK(goes_to(table, 0x0a010203, 1, 8) && goes_to(table, 0x08010203, 1, 8) && goes_nowhere(table, 0xc0010203));
 
     /* 10.9.9.2 is at place 65535 and 10.9.9.1 behind it; then 10.9.9.1 is at that place too. */
     table = cleared();
     list[65535] = 0x0a090902;
     list[65536] = list[65537] = 0x0a090901;
-    empty_dump();
+    empty_file();
     put_good("08 0a");
     put_route("08 08", NEXT_HOP, OTHER_HOP, NULL);
-    CHECK(gives_by(table, list, MANY, dump.bytes, dump.size, GATEWAY_OK) && counted(1, 0, 1));
+    CHECK(gives_by(table, list, MANY, file.bytes, file.size, GATEWAY_OK) && counted(1, 0, 1));
     CHECK(goes_to(table, 0x08010203, 65535, 8) && goes_nowhere(table, 0x0a010203));
     list[65535] = 0x0a090901;
-    CHECK(gives_by(table, list, MANY, dump.bytes, dump.size, GATEWAY_OK) && counted(3, 0, 1));
+    CHECK(gives_by(table, list, MANY, file.bytes, file.size, GATEWAY_OK) && counted(3, 0, 1));
     CHECK(goes_to(table, 0x08010203, 65535, 8) && goes_to(table, 0x0a010203, 65535, 8));
 }
 
@@ -439,7 +359,7 @@ static void run_attributes(void)
     };
     for (size_t i = 0; i < sizeof good / sizeof good[0]; i++) {
         const struct gateway_table table = cleared();
-        empty_dump();
+        empty_file();
         put_route("08 0a", good[i], NULL, NULL);
         CHECK(imports(table, GATEWAY_OK) && counted(1, 0, 0) && goes_to(table, 0x0a010203, 1, 8));
     }
@@ -481,24 +401,24 @@ static void run_bad_records(void)
     };
     for (size_t i = 0; i < sizeof bad / sizeof bad[0]; i++) {
         struct gateway_table table = cleared();
-        empty_dump();
+        empty_file();
         put_good("08 0a");
         put_record(ROUTE, bad[i]);
-        const size_t after = dump.size;
+        const size_t after = file.size;
         put_good("08 c0");
         CHECK(imports(table, GATEWAY_BAD_MESSAGE) && counted(1, 0, 0) && has_words(13, 0, 0));
         CHECK(goes_to(table, 0x0a010203, 1, 8) && goes_nowhere(table, 0x0b010203) && goes_nowhere(table, 0xc0010203));
-        CHECK(refuses(table, dump.bytes, dump.size, GATEWAY_BAD_MESSAGE) && ends(GATEWAY_BAD_MESSAGE));
+        CHECK(refuses(table, file.bytes, file.size, GATEWAY_BAD_MESSAGE) && ends(GATEWAY_BAD_MESSAGE));
         const struct lent whole = lent;
 
         /* The number comes with the record's last byte, and not before. */
         table = cleared();
-        CHECK(gives(table, dump.bytes, after - 1, GATEWAY_OK));
-        CHECK(gives(table, dump.bytes + after - 1, dump.size - after + 1, GATEWAY_BAD_MESSAGE) && same(&lent, &whole));
+        CHECK(gives(table, file.bytes, after - 1, GATEWAY_OK));
+        CHECK(gives(table, file.bytes + after - 1, file.size - after + 1, GATEWAY_BAD_MESSAGE) && same(&lent, &whole));
     }
     /* The same bytes in a record of another kind mean nothing. */
     const struct gateway_table table = cleared();
-    empty_dump();
+    empty_file();
     for (size_t i = 0; i < MOST_RECORDS && i < sizeof bad / sizeof bad[0]; i++)
         put_record(MESSAGE, bad[i]);
     CHECK(imports(table, GATEWAY_OK) && counted(0, 0, 0) && ends(GATEWAY_OK));
@@ -511,11 +431,11 @@ static void put_long_route(const char *prefix, size_t body)
     put("00 00 00 09");
     put(prefix);
     put("00 01 00 01 65 00 00 00 00 00");
-    const size_t from = dump.size, attributes = body - (from - dump.starts[dump.records - 1] - HEADER);
+    const size_t from = file.size, attributes = body - (from - file.starts[file.records - 1] - HEADER);
     write_number(from - 2, 2, attributes);
     put(NEXT_HOP "50 02 00 00");
-    write_number(dump.size - 2, 2, attributes - (dump.size - from));
-    put_zeros(attributes - (dump.size - from));
+    write_number(file.size - 2, 2, attributes - (file.size - from));
+    put_bytes(0, attributes - (file.size - from));
     end_record();
 }
 
@@ -523,16 +443,16 @@ static void put_long_route(const char *prefix, size_t body)
 static void run_long_records(void)
 {
     struct gateway_table table = cleared();
-    empty_dump();
+    empty_file();
     put_long_route("08 0a", MOST_BODY);
-    CHECK(dump.size == GATEWAY_RECORD_BYTES);
-    const size_t longest = dump.size;
+    CHECK(file.size == GATEWAY_RECORD_BYTES);
+    const size_t longest = file.size;
     put_good("08 c0");
-    CHECK(gives(table, dump.bytes, GATEWAY_CHUNK_BYTES, GATEWAY_OK));
+    CHECK(gives(table, file.bytes, GATEWAY_CHUNK_BYTES, GATEWAY_OK));
     CHECK(counted(0, 0, 0) && has_words(0, GATEWAY_CHUNK_BYTES, 12));
-    CHECK(gives(table, dump.bytes + GATEWAY_CHUNK_BYTES, 11, GATEWAY_OK) && has_words(0, 65547, 1));
-    CHECK(counted(0, 0, 0) && memcmp(lent.stream.room, dump.bytes, longest - 1) == 0);
-    CHECK(gives(table, dump.bytes + longest - 1, dump.size - longest + 1, GATEWAY_OK));
+    CHECK(gives(table, file.bytes + GATEWAY_CHUNK_BYTES, 11, GATEWAY_OK) && has_words(0, 65547, 1));
+    CHECK(counted(0, 0, 0) && memcmp(lent.stream.room, file.bytes, longest - 1) == 0);
+    CHECK(gives(table, file.bytes + longest - 1, file.size - longest + 1, GATEWAY_OK));
     CHECK(counted(2, 0, 0) && has_words(0, 0, 0) && ends(GATEWAY_OK));
     CHECK(goes_to(table, 0x0a010203, 1, 8) && goes_to(table, 0xc0010203, 1, 8));
     CHECK(lent.stream.room[longest - 1] == 0); /* its last byte is kept too */
@@ -540,30 +460,30 @@ static void run_long_records(void)
     /* Its header cut everywhere; the bytes after it are not looked at. */
     static const size_t sizes[] = {MOST_BODY + 1, MOST_BODY + 2, 0x20000, 0x7fffffff, 0x80000000, 0xffffffff};
     for (size_t i = 0; i < sizeof sizes / sizeof sizes[0]; i++) {
-        empty_dump();
+        empty_file();
         put_good("08 0a");
-        const size_t start = dump.size;
+        const size_t start = file.size;
         put_record(ROUTE, "");
         write_number(start + 8, 4, sizes[i]);
         put_good("08 c0");
         for (size_t cut = start; cut <= start + HEADER; cut++) {
             table = cleared();
-            CHECK(gives(table, dump.bytes, cut, cut < start + HEADER ? GATEWAY_OK : GATEWAY_LONG_RECORD));
-            CHECK(gives(table, dump.bytes + cut, dump.size - cut, GATEWAY_LONG_RECORD));
+            CHECK(gives(table, file.bytes, cut, cut < start + HEADER ? GATEWAY_OK : GATEWAY_LONG_RECORD));
+            CHECK(gives(table, file.bytes + cut, file.size - cut, GATEWAY_LONG_RECORD));
             CHECK(counted(1, 0, 0) && has_words(15, 0, 0) && goes_nowhere(table, 0xc0010203));
             CHECK(refuses(table, NULL, 0, GATEWAY_LONG_RECORD) && ends(GATEWAY_LONG_RECORD));
         }
     }
 
     /* In a record of another kind a body of as many bytes is stepped over, in two chunks. */
-    empty_dump();
+    empty_file();
     put_record(PEERS, "");
-    put_zeros(MOST_BODY);
+    put_bytes(0, MOST_BODY);
     write_number(8, 4, MOST_BODY);
     put_good("08 0a");
     table = cleared();
-    CHECK(gives(table, dump.bytes, GATEWAY_CHUNK_BYTES, GATEWAY_OK) && has_words(0, 0, 12));
-    CHECK(gives(table, dump.bytes + GATEWAY_CHUNK_BYTES, dump.size - GATEWAY_CHUNK_BYTES, GATEWAY_OK));
+    CHECK(gives(table, file.bytes, GATEWAY_CHUNK_BYTES, GATEWAY_OK) && has_words(0, 0, 12));
+    CHECK(gives(table, file.bytes + GATEWAY_CHUNK_BYTES, file.size - GATEWAY_CHUNK_BYTES, GATEWAY_OK));
     CHECK(counted(1, 0, 0) && ends(GATEWAY_OK));
 }
 
@@ -572,15 +492,15 @@ static void run_longest_step(void)
 {
     struct gateway_table table = cleared();
     uint32_t left = UINT32_MAX;
-    empty_dump();
+    empty_file();
     put_record(MESSAGE, "");
     write_number(8, 4, left);
     CHECK(imports(table, GATEWAY_OK) && has_words(0, 0, left));
-    memset(dump.bytes, 0x0d, sizeof dump.bytes);
+    memset(file.bytes, 0x0d, sizeof file.bytes);
     const struct lent was = lent;
     int right = 1;
     for (; left > GATEWAY_CHUNK_BYTES; left -= GATEWAY_CHUNK_BYTES) {
-        right &= gateway_table_import(&table, &lent.stream, &lent.counts, hops, HOPS, dump.bytes,
+        right &= gateway_table_import(&table, &lent.stream, &lent.counts, hops, HOPS, file.bytes,
                                       GATEWAY_CHUNK_BYTES) == GATEWAY_OK;
         right &= has_words(0, 0, left - GATEWAY_CHUNK_BYTES);
     }
@@ -588,11 +508,11 @@ static void run_longest_step(void)
     memcpy(lent.stream.words, was.stream.words, sizeof was.stream.words);
     CHECK(same(&lent, &was)); /* nothing but the words has changed */
     set_words(0, 0, left);
-    CHECK(gives(table, dump.bytes, left - 1, GATEWAY_OK) && has_words(0, 0, 1));
+    CHECK(gives(table, file.bytes, left - 1, GATEWAY_OK) && has_words(0, 0, 1));
     const struct lent here = lent;
     CHECK(ends(GATEWAY_INSIDE_RECORD));
     lent = here;
-    empty_dump();
+    empty_file();
     put("0d");
     put_good("08 0a");
     CHECK(imports(table, GATEWAY_OK) && counted(1, 0, 0) && goes_to(table, 0x0a010203, 1, 8) && ends(GATEWAY_OK));
@@ -605,25 +525,25 @@ static void run_bad_chunks(void)
     struct gateway_table table = cleared();
 
     /* A record of another kind and as many of a route, which has no hop, as find room in a chunk. */
-    empty_dump();
+    empty_file();
     put_record(MESSAGE, "00 00 00 00");
     put_route("00", "", NULL, NULL);
-    const size_t from = dump.starts[1], size = dump.size - from;
-    while (dump.size + size <= GATEWAY_CHUNK_BYTES) {
-        memcpy(dump.bytes + dump.size, dump.bytes + from, size);
-        dump.size += size;
+    const size_t from = file.starts[1], size = file.size - from;
+    while (file.size + size <= GATEWAY_CHUNK_BYTES) {
+        memcpy(file.bytes + file.size, file.bytes + from, size);
+        file.size += size;
     }
-    const uint32_t many = (uint32_t)((dump.size - from) / size);
-    put_zeros(GATEWAY_CHUNK_BYTES + 1 - dump.size);
-    CHECK(refuses(table, dump.bytes, dump.size, GATEWAY_BAD_CHUNK));
-    CHECK(gives(table, dump.bytes, dump.size - 1, GATEWAY_OK) && counted(0, 0, many));
-    CHECK(gateway_table_import(&table, &lent.stream, &lent.counts, hops, HOPS, dump.bytes, (size_t)-1) ==
+    const uint32_t many = (uint32_t)((file.size - from) / size);
+    put_bytes(0, GATEWAY_CHUNK_BYTES + 1 - file.size);
+    CHECK(refuses(table, file.bytes, file.size, GATEWAY_BAD_CHUNK));
+    CHECK(gives(table, file.bytes, file.size - 1, GATEWAY_OK) && counted(0, 0, many));
+    CHECK(gateway_table_import(&table, &lent.stream, &lent.counts, hops, HOPS, file.bytes, (size_t)-1) ==
           GATEWAY_BAD_CHUNK);
-    CHECK(gateway_table_import(&table, &lent.stream, &lent.counts, hops, HOPS, dump.bytes, (size_t)1 << 32) ==
+    CHECK(gateway_table_import(&table, &lent.stream, &lent.counts, hops, HOPS, file.bytes, (size_t)1 << 32) ==
           GATEWAY_BAD_CHUNK);
 
     /* Each count by itself. From 4000000000 it goes on; then it is too high. */
-    empty_dump();
+    empty_file();
     put_good("08 0a");
     put_good("08 08");
     put_good("08 09");
@@ -634,13 +554,13 @@ static void run_bad_chunks(void)
         lent.counts = full;
         CHECK(imports(table, GATEWAY_OK));
         CHECK(counted(full.accepted + 2, full.refused + 1, full.without_hop + 1) && has_words(0, 0, 0));
-        CHECK(refuses(table, dump.bytes, dump.size, GATEWAY_BAD_CHUNK));
+        CHECK(refuses(table, file.bytes, file.size, GATEWAY_BAD_CHUNK));
         CHECK(refuses(table, NULL, 0, GATEWAY_BAD_CHUNK));
         for (size_t i = 0; i < sizeof high / sizeof high[0]; i++) {
             const struct gateway_counts above = {place == 0 ? high[i] : 0, place == 1 ? high[i] : most,
                                                  place == 2 ? high[i] : 1};
             lent.counts = above;
-            CHECK(refuses(table, dump.bytes, dump.size, GATEWAY_BAD_CHUNK));
+            CHECK(refuses(table, file.bytes, file.size, GATEWAY_BAD_CHUNK));
             CHECK(refuses(table, NULL, 0, GATEWAY_BAD_CHUNK));
         }
         const struct gateway_counts none = {0, 0, 0};
@@ -666,49 +586,49 @@ static void run_ended(void)
         const uint32_t number = ended[i].number;
         for (uint32_t others = 0; others < 3; others++) {
             set_words(ended[i].word, 7 * others, 9 * others);
-            CHECK(refuses(table, dump.bytes, dump.size, number) && refuses(table, NULL, 0, number));
+            CHECK(refuses(table, file.bytes, file.size, number) && refuses(table, NULL, 0, number));
             CHECK(ends(number) && has_words(ended[i].word, 7 * others, 9 * others));
         }
-        CHECK(gateway_table_import(&table, &lent.stream, &lent.counts, hops, HOPS, dump.bytes, 65537) == number);
+        CHECK(gateway_table_import(&table, &lent.stream, &lent.counts, hops, HOPS, file.bytes, 65537) == number);
         table.slots_words--;
-        CHECK(refuses(table, dump.bytes, dump.size, number));
+        CHECK(refuses(table, file.bytes, file.size, number));
         table.settings.k = 9;
-        CHECK(refuses(table, dump.bytes, dump.size, number));
+        CHECK(refuses(table, file.bytes, file.size, number));
         lent.counts.refused = UINT32_MAX;
-        CHECK(refuses(table, dump.bytes, dump.size, number));
+        CHECK(refuses(table, file.bytes, file.size, number));
     }
 
     /* By an accepted end too: the next dump wants a stream that is begun anew. */
     struct gateway_table table = cleared();
-    CHECK(ends(GATEWAY_OK) && refuses(table, dump.bytes, dump.size, GATEWAY_OK) && ends(GATEWAY_OK));
+    CHECK(ends(GATEWAY_OK) && refuses(table, file.bytes, file.size, GATEWAY_OK) && ends(GATEWAY_OK));
     begin();
     CHECK(imports(table, GATEWAY_OK) && is_worked(table));
-    CHECK(gives(table, dump.bytes, 5, GATEWAY_OK) && ends(GATEWAY_INSIDE_RECORD));
-    CHECK(refuses(table, dump.bytes, dump.size, GATEWAY_INSIDE_RECORD) && ends(GATEWAY_INSIDE_RECORD));
+    CHECK(gives(table, file.bytes, 5, GATEWAY_OK) && ends(GATEWAY_INSIDE_RECORD));
+    CHECK(refuses(table, file.bytes, file.size, GATEWAY_INSIDE_RECORD) && ends(GATEWAY_INSIDE_RECORD));
 }
 
 /* Any words mean something. What they say of the room holds only where it fits. */
 static void run_words(void)
 {
     struct gateway_table table = cleared();
-    empty_dump();
+    empty_file();
     put_good("08 0a");
-    const size_t size = dump.size;
+    const size_t size = file.size;
     const uint32_t whole = (uint32_t)size, none[] = {12, 13, 65548, 65549, UINT32_MAX};
 
     /* So many bytes of a header stand in the room, and of 12 or more none. */
     for (uint32_t read = 0; read < HEADER; read++) {
         table = cleared();
-        memcpy(lent.stream.room, dump.bytes, read);
+        memcpy(lent.stream.room, file.bytes, read);
         set_words(0, read, 0);
-        CHECK(gives(table, dump.bytes + read, size - read, GATEWAY_OK) && counted(1, 0, 0));
+        CHECK(gives(table, file.bytes + read, size - read, GATEWAY_OK) && counted(1, 0, 0));
         set_words(0, read, 0);
         CHECK(ends(read == 0 ? GATEWAY_OK : GATEWAY_INSIDE_RECORD));
     }
     for (size_t i = 0; i < sizeof none / sizeof none[0]; i++) {
         table = cleared();
         set_words(0, none[i], 0);
-        CHECK(gives(table, dump.bytes, size, GATEWAY_OK) && counted(1, 0, 0));
+        CHECK(gives(table, file.bytes, size, GATEWAY_OK) && counted(1, 0, 0));
         set_words(0, none[i], 0);
         CHECK(gives(table, NULL, 0, GATEWAY_OK) && has_words(0, 0, 0));
         set_words(0, none[i], 0);
@@ -718,9 +638,9 @@ static void run_words(void)
     /* With bytes to come it is a record that is read, if its header is in the room and there is room for it. */
     for (uint32_t read = 0; read < whole; read++) {
         table = cleared();
-        memcpy(lent.stream.room, dump.bytes, read);
+        memcpy(lent.stream.room, file.bytes, read);
         set_words(0, read, whole - read);
-        CHECK(gives(table, dump.bytes + read, size - read, GATEWAY_OK));
+        CHECK(gives(table, file.bytes + read, size - read, GATEWAY_OK));
         CHECK(counted(read < HEADER ? 0 : 1, 0, 0) && has_words(0, 0, 0));
         set_words(0, read, whole - read);
         CHECK(ends(GATEWAY_INSIDE_RECORD) && has_words(18, 0, 0));
@@ -734,7 +654,7 @@ static void run_words(void)
     };
     for (size_t i = 0; i < sizeof under_way / sizeof under_way[0]; i++) {
         table = cleared();
-        memcpy(lent.stream.room, dump.bytes, HEADER);
+        memcpy(lent.stream.room, file.bytes, HEADER);
         set_words(0, under_way[i].read, under_way[i].left);
         CHECK(gives(table, NULL, 0, GATEWAY_OK) && has_words(0, under_way[i].kept, under_way[i].left));
     }
@@ -742,12 +662,12 @@ static void run_words(void)
     /* What another kind of call has left of a record of its own is stepped over. */
     for (size_t at = 4; at < 8; at++) {
         table = cleared();
-        memcpy(lent.stream.room, dump.bytes, 20);
+        memcpy(lent.stream.room, file.bytes, 20);
         lent.stream.room[at] ^= 1;
         set_words(0, 20, whole - 20);
-        CHECK(gives(table, dump.bytes + 20, 1, GATEWAY_OK) && has_words(0, 0, whole - 21));
-        CHECK(gives(table, dump.bytes + 21, size - 21, GATEWAY_OK) && counted(0, 0, 0) && has_words(0, 0, 0));
-        CHECK(gives(table, dump.bytes, size, GATEWAY_OK) && counted(1, 0, 0));
+        CHECK(gives(table, file.bytes + 20, 1, GATEWAY_OK) && has_words(0, 0, whole - 21));
+        CHECK(gives(table, file.bytes + 21, size - 21, GATEWAY_OK) && counted(0, 0, 0) && has_words(0, 0, 0));
+        CHECK(gives(table, file.bytes, size, GATEWAY_OK) && counted(1, 0, 0));
     }
 }
 
@@ -756,13 +676,13 @@ static void run_order(void)
 {
     struct gateway_table table = cleared(), wrong_sizes, wrong_settings;
     make_worked();
-    CHECK(gives(table, dump.bytes, 30, GATEWAY_OK));
+    CHECK(gives(table, file.bytes, 30, GATEWAY_OK));
     wrong_sizes = wrong_settings = table;
     wrong_sizes.counters_bytes++;
     wrong_settings.counters_bytes--;
     wrong_settings.settings.d[31] = 12;
-    CHECK(refuses(wrong_sizes, dump.bytes + 30, dump.size - 30, GATEWAY_BAD_SIZE));
-    CHECK(refuses(wrong_settings, dump.bytes + 30, dump.size - 30, GATEWAY_BAD_SETTINGS));
+    CHECK(refuses(wrong_sizes, file.bytes + 30, file.size - 30, GATEWAY_BAD_SIZE));
+    CHECK(refuses(wrong_settings, file.bytes + 30, file.size - 30, GATEWAY_BAD_SETTINGS));
     wrong_sizes = table;
     wrong_sizes.slots_words--;
     CHECK(refuses(wrong_sizes, NULL, 0, GATEWAY_BAD_SIZE));
@@ -770,23 +690,23 @@ static void run_order(void)
     CHECK(refuses(wrong_settings, NULL, 0, GATEWAY_BAD_SETTINGS));
     uint32_t counts[3] = {0, 0, 0};
     CHECK(gateway_import(2, table.settings.d, 31, 1, 2, 1, 2, 1, lent.counters, COUNTERS, lent.slots, SLOTS, hops, HOPS,
-                         counts, lent.stream.words, lent.stream.room, dump.bytes, 1) ==
+                         counts, lent.stream.words, lent.stream.room, file.bytes, 1) ==
           (uint64_t)GATEWAY_BAD_SETTINGS << 48);
     CHECK(same(&lent, &before) && counts[0] == 0 && counts[1] == 0 && counts[2] == 0);
     lent.counts.accepted = UINT32_MAX;
-    CHECK(refuses(wrong_sizes, dump.bytes, 1, GATEWAY_BAD_CHUNK));
-    CHECK(refuses(wrong_settings, dump.bytes, 1, GATEWAY_BAD_CHUNK));
+    CHECK(refuses(wrong_sizes, file.bytes, 1, GATEWAY_BAD_CHUNK));
+    CHECK(refuses(wrong_settings, file.bytes, 1, GATEWAY_BAD_CHUNK));
     lent.counts.accepted = before.counts.accepted = 0;
-    CHECK(gateway_table_import(&wrong_settings, &lent.stream, &lent.counts, NULL, 0, dump.bytes, 65537) ==
+    CHECK(gateway_table_import(&wrong_settings, &lent.stream, &lent.counts, NULL, 0, file.bytes, 65537) ==
           GATEWAY_BAD_CHUNK);
     CHECK(same(&lent, &before));
 
     /* A record that is too long or bad is found only by a call that is right otherwise. */
-    CHECK(gives(table, dump.bytes + 30, dump.size - 30, GATEWAY_OK) && is_worked(table));
-    empty_dump();
+    CHECK(gives(table, file.bytes + 30, file.size - 30, GATEWAY_OK) && is_worked(table));
+    empty_file();
     put_record(ROUTE, "");
-    CHECK(refuses(wrong_sizes, dump.bytes, dump.size, GATEWAY_BAD_SIZE));
-    CHECK(imports(table, GATEWAY_BAD_MESSAGE) && refuses(wrong_sizes, dump.bytes, dump.size, GATEWAY_BAD_MESSAGE));
+    CHECK(refuses(wrong_sizes, file.bytes, file.size, GATEWAY_BAD_SIZE));
+    CHECK(imports(table, GATEWAY_BAD_MESSAGE) && refuses(wrong_sizes, file.bytes, file.size, GATEWAY_BAD_MESSAGE));
 }
 
 int main(void)

@@ -14,10 +14,10 @@
 #include <stdlib.h>
 #include <string.h>
 
-enum kind { CLEAR, ADD, WITHDRAW, CHANGE, VECTOR, LOOKUP, LIST, MESSAGE, WRITE, IMPORT, END, KINDS };
+enum kind { CLEAR, ADD, WITHDRAW, CHANGE, VECTOR, LOOKUP, LIST, MESSAGE, WRITE, IMPORT, REPLAY, END, KINDS };
 
 static const char *const names[KINDS] = {"clear", "add",     "withdraw",   "change", "match vector", "lookup",
-                                         "list",  "message", "withdrawal", "import", "end of a stream"};
+                                         "list",  "message", "withdrawal", "import", "replay",       "end of a stream"};
 
 static const struct calls library = CALLS_OF(gateway), hand = CALLS_OF(hand);
 
@@ -42,17 +42,17 @@ struct lent {
     struct list d; /* for each call anew */
     struct list counters, slots;
     struct list addresses, results; /* of a list */
-    struct list message, hops;      /* of a message that is read; of a dump, the second too */
+    struct list message, hops;      /* of a message that is read; of a dump or a day, the second too */
     struct list room;               /* for one that is written */
-    struct list counts, words, record; /* of a stream, from one chunk to the next */
-    struct list chunk;                 /* of a dump */
+    struct list counts, tally, words, record; /* of a stream, from one chunk to the next */
+    struct list chunk;                        /* of a dump or a day */
     int unwritten; /* whether nothing was written to the stream's record but by the library */
 };
 
-enum { ROUTES = 24, MOST_NUMBERS = 20, SMALL = 1 << 14, MOST_BYTES = 1 << 17, FRONT = 256 };
+enum { ROUTES = 24, MOST_NUMBERS = 20, FIGURES = 3 + MOST_NUMBERS, SMALL = 1 << 14, MOST_BYTES = 1 << 17, FRONT = 256 };
 
 static uint64_t given[KINDS][MOST_NUMBERS], routes_accepted, routes_refused;
-static uint64_t dump_accepted, dump_refused, dump_hopless, other_numbers;
+static uint64_t dump_accepted, dump_refused, dump_hopless, day_figures[FIGURES], other_numbers;
 static uint64_t unequal_tables, counts_refused, values_refused;
 static unsigned long long seed;
 static unsigned long table;
@@ -128,6 +128,10 @@ static uint64_t answer(const struct calls *calls, const struct call *c, const st
         return calls->import(WORDS, (const uint32_t *)(void *)m->hops.at, m->hops.size / 4,
                              (uint32_t *)(void *)m->counts.at, (uint32_t *)(void *)m->words.at, m->record.at,
                              m->chunk.at, m->chunk.size);
+    case REPLAY:
+        return calls->replay(WORDS, (const uint32_t *)(void *)m->hops.at, m->hops.size / 4,
+                             (uint32_t *)(void *)m->tally.at, (uint32_t *)(void *)m->words.at, m->record.at,
+                             m->chunk.at, m->chunk.size);
     case END: return calls->end_stream((uint32_t *)(void *)m->words.at);
     default: return calls->write_withdrawal(c->asked, c->length, m->room.at, m->room.size);
     }
@@ -136,6 +140,11 @@ static uint64_t answer(const struct calls *calls, const struct call *c, const st
 static int asks(const struct call *c)
 {
     return c->kind == VECTOR || c->kind == LOOKUP || c->kind == LIST;
+}
+
+static int takes_chunk(const struct call *c)
+{
+    return c->kind == IMPORT || c->kind == REPLAY;
 }
 
 /* One in so many is wrong, by a little or altogether. */
@@ -151,7 +160,7 @@ static size_t perhaps_wrong(size_t size, uint32_t one_in_so_many)
     }
 }
 
-/* A message or a dump that is being made, with room for more than a message or a record may have. */
+/* A message, a dump or a day that is being made, with room for more than a message or a record may have. */
 struct bytes {
     uint8_t at[MOST_BYTES];
     size_t size;
@@ -263,23 +272,30 @@ static void lend_hops(struct lent *by_hand, struct lent *m)
     m->hops = copy(&by_hand->hops, 0);
 }
 
-/* A message about the routes, most often a good one. */
-static void lend_message(struct lent *by_hand, struct lent *m, const struct call routes[ROUTES])
+/* A message about the routes, most often a good one; one in so many is damaged. */
+static const struct bytes *random_message(const struct call routes[ROUTES], uint32_t one_in_so_many)
 {
     static struct bytes message;
     make_message(&message, routes, random_below(8));
-    if (one_in(3))
+    if (one_in(one_in_so_many))
         damage_message(&message);
-    by_hand->message = lend(message.size, 0);
-    if (message.size != 0)
-        memcpy(by_hand->message.at, message.at, message.size);
+    return &message;
+}
+
+static void lend_message(struct lent *by_hand, struct lent *m, const struct call routes[ROUTES])
+{
+    const struct bytes *const made = random_message(routes, 3);
+    by_hand->message = lend(made->size, 0);
+    if (made->size != 0)
+        memcpy(by_hand->message.at, made->at, made->size);
     m->message = copy(&by_hand->message, random_below(4));
     lend_hops(by_hand, m);
 }
 
-/* The dump that chunks are cut from, and how many of its bytes they have taken. */
-static struct bytes dump;
+/* The dump or the day that chunks are cut from, and how many of its bytes they have taken. */
+static struct bytes file;
 static size_t taken;
+static int is_day;
 
 static void put_many(struct bytes *b, size_t many)
 {
@@ -287,8 +303,8 @@ static void put_many(struct bytes *b, size_t many)
         put(b, random_word());
 }
 
-/* A route with some entries, each with a next hop of its own. */
-static void put_body(struct bytes *b, const struct call routes[ROUTES])
+/* A route of a dump with some entries, each with a next hop of its own. */
+static void put_route(struct bytes *b, const struct call routes[ROUTES])
 {
     put_many(b, 4);
     put_prefixes(b, routes, 1);
@@ -305,43 +321,75 @@ static void put_body(struct bytes *b, const struct call routes[ROUTES])
     }
 }
 
-/* A route that is read, most often a good one, or another record. What it says of its length may be wrong. */
+/* A message of a day, with AS numbers of two bytes or of four, the interface, the family and both addresses before it.
+   It is an UPDATE most often, and seldom cut. */
+static void put_message(struct bytes *b, const struct call routes[ROUTES], uint32_t as_bytes)
+{
+    const size_t from = b->size;
+    put_many(b, 2 * as_bytes + 2);
+    put(b, one_in(40) ? random_below(3) : 0);
+    put(b, one_in(12) ? random_below(4) : 1);
+    put_many(b, 8);
+    if (one_in(6)) {
+        put_many(b, 16 + 2);
+        put(b, one_in(8) ? 2 : random_below(6));
+        put_many(b, random_below(40));
+    } else {
+        const struct bytes *const made = random_message(routes, 12);
+        for (size_t i = 0; i < made->size; i++)
+            put(b, made->at[i]);
+    }
+    if (one_in(40))
+        b->size = from + random_below((uint32_t)(b->size - from));
+}
+
+/* A record that is read, most often a good one, or another. What it says of its length may be wrong. */
 static void put_record(struct bytes *b, const struct call routes[ROUTES])
 {
-    static const uint8_t kinds[][4] = {{0, 13, 0, 1}, {0, 13, 0, 4}, {0, 16, 0, 4}, {0, 12, 0, 2}, {13, 0, 2, 0}};
-    static const uint8_t route[4] = {0, 13, 0, 2};
+    static const uint8_t dump_kinds[][4] = {{0, 13, 0, 1}, {0, 13, 0, 4}, {0, 16, 0, 4}, {0, 12, 0, 2}, {13, 0, 2, 0}};
+    static const uint8_t day_kinds[][4] = {{0, 16, 0, 0}, {0, 16, 0, 5}, {0, 17, 0, 4}, {0, 13, 0, 2}, {16, 0, 4, 0}};
+    static const uint8_t route[4] = {0, 13, 0, 2}, messages[][4] = {{0, 16, 0, 1}, {0, 16, 0, 4}};
     const size_t from = b->size;
-    const int is_route = !one_in(4);
+    const uint32_t which = random_below(5), as4 = random_below(2);
+    const int is_read = !one_in(4);
+    const uint8_t *kind = is_day ? day_kinds[which] : dump_kinds[which];
     put_many(b, 12);
-    if (is_route)
-        put_body(b, routes);
-    else
+    if (!is_read) {
         put_many(b, one_in(4) ? 0 : random_below(one_in(8) ? 2000 : 40));
+    } else if (is_day) {
+        kind = messages[as4];
+        put_message(b, routes, as4 ? 4 : 2);
+    } else {
+        kind = route;
+        put_route(b, routes);
+    }
     size_t size = b->size - from - 12;
     if (one_in(60))
         size = one_in(2) ? random_word() : size + random_below(5) - 2;
     else if (one_in(60))
         size = 65534 + random_below(5);
-    memcpy(b->at + from + 4, is_route ? route : kinds[random_below(sizeof kinds / sizeof kinds[0])], 4);
+    memcpy(b->at + from + 4, kind, 4);
     put_two(b, from + 8, size >> 16);
     put_two(b, from + 10, size);
 }
 
-static void make_dump(const struct call routes[ROUTES])
+/* A dump or a day. */
+static void make_file(const struct call routes[ROUTES])
 {
-    dump.size = taken = 0;
-    for (uint32_t many = 1 + random_below(12); many > 0 && dump.size < MOST_BYTES / 2; many--)
-        put_record(&dump, routes);
+    file.size = taken = 0;
+    is_day = one_in(2);
+    for (uint32_t many = 1 + random_below(12); many > 0 && file.size < MOST_BYTES / 2; many--)
+        put_record(&file, routes);
     if (one_in(8))
-        dump.at[random_below((uint32_t)dump.size)] ^= (uint8_t)(1 << random_below(8));
+        file.at[random_below((uint32_t)file.size)] ^= (uint8_t)(1 << random_below(8));
 }
 
-/* The next bytes of a dump, and zeros where there are not so many. */
+/* The next bytes of a file, and zeros where there are not so many. */
 static void lend_chunk(struct lent *by_hand, struct lent *m, const struct call routes[ROUTES])
 {
-    if (taken == dump.size)
-        make_dump(routes);
-    const size_t left = dump.size - taken;
+    if (taken == file.size)
+        make_file(routes);
+    const size_t left = file.size - taken;
     size_t size = one_in(5) ? random_below(3) : one_in(3) ? random_below(40) : one_in(4) ? left : random_below(2000);
     if (one_in(80))
         size = GATEWAY_CHUNK_BYTES + random_below(3);
@@ -350,7 +398,7 @@ static void lend_chunk(struct lent *by_hand, struct lent *m, const struct call r
     by_hand->chunk = lend(size, 0);
     const size_t told = size < left ? size : left;
     if (told != 0)
-        memcpy(by_hand->chunk.at, dump.at + taken, told);
+        memcpy(by_hand->chunk.at, file.at + taken, told);
     if (told != size)
         memset(by_hand->chunk.at + told, 0, size - told);
     taken += told;
@@ -361,9 +409,9 @@ static void lend_chunk(struct lent *by_hand, struct lent *m, const struct call r
 /* A stream that begins, and counts. Room that was not written to may not be looked at before. */
 static void lend_stream(struct lent *by_hand, struct lent *m)
 {
-    struct list *const lists[] = {&by_hand->counts, &by_hand->words, &m->counts, &m->words};
+    struct list *const lists[] = {&by_hand->counts, &by_hand->words, &m->counts, &m->words, &by_hand->tally, &m->tally};
     for (size_t i = 0; i < sizeof lists / sizeof lists[0]; i++) {
-        *lists[i] = lend(3 * sizeof(uint32_t), 4 * random_below(4));
+        *lists[i] = lend((i < 4 ? 3 : FIGURES) * sizeof(uint32_t), 4 * random_below(4));
         memset(lists[i]->at, 0, lists[i]->size);
     }
     by_hand->record = lend(GATEWAY_RECORD_BYTES, random_below(4));
@@ -382,13 +430,28 @@ static uint32_t odd_number(void)
     return one_in(4) ? random_word() : some[random_below(sizeof some / sizeof some[0])];
 }
 
-/* Begins a stream anew, most often, where it has ended or steps over more bytes than a dump has here; and seldom puts
+/* Puts another number into the tally, where high ones most often do not stay. */
+static void change_tally(const struct lent *by_hand, const struct lent *m)
+{
+    uint32_t tally[FIGURES];
+    memcpy(tally, by_hand->tally.at, sizeof tally);
+    for (size_t i = 0; i < FIGURES; i++)
+        if (tally[i] > 4000000000u && !one_in(4))
+            tally[i] = 0;
+    if (one_in(10))
+        tally[random_below(FIGURES)] = odd_number();
+    memcpy(by_hand->tally.at, tally, sizeof tally);
+    memcpy(m->tally.at, tally, sizeof tally);
+}
+
+/* Begins a stream anew, most often, where it has ended or steps over more bytes than a file has here; and seldom puts
    other numbers into the words and counts. */
 static void change_stream(const struct lent *by_hand, const struct lent *m)
 {
     uint32_t words[3], counts[3];
     memcpy(words, by_hand->words.at, sizeof words);
     memcpy(counts, by_hand->counts.at, sizeof counts);
+    change_tally(by_hand, m);
     if ((words[0] != 0 || words[2] > MOST_BYTES) && !one_in(4))
         memset(words, 0, sizeof words);
     if (one_in(20))
@@ -442,9 +505,9 @@ static void lend_others(struct lent *by_hand, struct lent *m, const struct call 
         lend_message(by_hand, m, routes);
     else if (c->kind == WRITE)
         lend_room(by_hand, m, c);
-    else if (c->kind == IMPORT)
+    else if (takes_chunk(c))
         lend_chunk(by_hand, m, routes);
-    if (c->kind == IMPORT || c->kind == END)
+    if (takes_chunk(c) || c->kind == END)
         change_stream(by_hand, m);
 }
 
@@ -466,6 +529,7 @@ static void take_back_others(const struct lent *m)
 static void take_back_stream(const struct lent *m)
 {
     take_back(&m->counts);
+    take_back(&m->tally);
     take_back(&m->words);
     take_back(&m->record);
 }
@@ -503,28 +567,33 @@ static void check_stream(const struct lent *by_hand, const struct lent *m, const
     memcpy(words, by_hand->words.at, sizeof words);
     check_lists(&m->words, &by_hand->words, c, "list of words");
     check_lists(&m->counts, &by_hand->counts, c, "list of counts");
+    check_lists(&m->tally, &by_hand->tally, c, "tally");
     const size_t kept = words[0] != 0 || words[1] > m->record.size ? 0 : words[1];
     const size_t all = one_in(32) ? m->record.size : FRONT, held = m->unwritten || kept > all ? kept : all;
     check(memcmp(m->record.at, by_hand->record.at, held) == 0, c, "room of the stream");
 }
 
-/* What the chunks of dumps count from here on. */
-static void note_counts(const struct lent *by_hand, const uint32_t before[3])
+/* What the chunks of dumps and of days count from here on. */
+static void note_counts(const struct lent *by_hand, const uint32_t before[3], const uint32_t tally_before[FIGURES])
 {
-    uint32_t counts[3];
+    uint32_t counts[3], tally[FIGURES];
     memcpy(counts, by_hand->counts.at, sizeof counts);
+    memcpy(tally, by_hand->tally.at, sizeof tally);
     dump_accepted += counts[0] - before[0];
     dump_refused += counts[1] - before[1];
     dump_hopless += counts[2] - before[2];
+    for (size_t i = 0; i < FIGURES; i++)
+        day_figures[i] += tally[i] - tally_before[i];
 }
 
 /* Makes a call of both. What by_hand is lent holds the same, but that m may lack what no answer needs. */
 static void compare(const struct call *c, struct lent *by_hand, struct lent *m)
 {
-    uint32_t words[3] = {0, 0, 0}, counts[3] = {0, 0, 0};
-    if (c->kind == IMPORT) {
+    uint32_t words[3] = {0, 0, 0}, counts[3] = {0, 0, 0}, tally[FIGURES] = {0};
+    if (takes_chunk(c)) {
         memcpy(words, by_hand->words.at, sizeof words);
         memcpy(counts, by_hand->counts.at, sizeof counts);
+        memcpy(tally, by_hand->tally.at, sizeof tally);
     }
     lend_filters(by_hand, m, c);
     const uint64_t ours = answer(&hand, c, by_hand);
@@ -540,7 +609,7 @@ static void compare(const struct call *c, struct lent *by_hand, struct lent *m)
         if (unread)
             forget(&m->message);
     }
-    const int untaken = c->kind == IMPORT && (words[0] != 0 || unread || refusal == GATEWAY_BAD_CHUNK);
+    const int untaken = takes_chunk(c) && (words[0] != 0 || unread || refusal == GATEWAY_BAD_CHUNK);
     if (untaken) {
         forget(&m->hops);
         forget(&m->chunk);
@@ -548,7 +617,7 @@ static void compare(const struct call *c, struct lent *by_hand, struct lent *m)
     const uint64_t theirs = answer(&library, c, m);
     check(theirs == ours, c, "answer");
     /* Any number may stand in the words of a stream as the one that ended it. */
-    check(refusal < MOST_NUMBERS || c->kind == IMPORT || c->kind == END, c, "number");
+    check(refusal < MOST_NUMBERS || takes_chunk(c) || c->kind == END, c, "number");
     if (refusal < MOST_NUMBERS)
         given[c->kind][refusal]++;
     else
@@ -573,11 +642,11 @@ static void compare(const struct call *c, struct lent *by_hand, struct lent *m)
         if (refusal != GATEWAY_BAD_MESSAGE)
             check_lists(&m->hops, &by_hand->hops, c, "list of next hops");
     }
-    if (c->kind == IMPORT || c->kind == END)
+    if (takes_chunk(c) || c->kind == END)
         check_stream(by_hand, m, c);
-    if (c->kind == IMPORT)
-        note_counts(by_hand, counts);
-    if (c->kind == IMPORT && !untaken) {
+    if (takes_chunk(c))
+        note_counts(by_hand, counts, tally);
+    if (takes_chunk(c) && !untaken) {
         check_lists(&m->chunk, &by_hand->chunk, c, "chunk");
         check_lists(&m->hops, &by_hand->hops, c, "list of next hops");
     }
@@ -661,7 +730,7 @@ static void call_wrongly(struct call c, const struct call routes[ROUTES])
         m.counters = copy(&by_hand.counters, 0);
         m.slots = copy(&by_hand.slots, asks(&c) ? random_below(4) : 0);
     }
-    if (c.kind == IMPORT)
+    if (takes_chunk(&c))
         lend_stream(&by_hand, &m);
     lend_others(&by_hand, &m, &c, routes);
     compare(&c, &by_hand, &m);
@@ -702,12 +771,13 @@ static void call_rightly(const struct call *c, struct lent by_hand, struct lent 
     take_back_others(&m);
 }
 
-/* Which calls are made how often. */
+/* Which calls are made how often. Seldom a chunk of a day is imported, and one of a dump replayed. */
 static enum kind random_kind(void)
 {
     static const enum kind kinds[] = {ADD,  ADD,     ADD,     ADD,   WITHDRAW, WITHDRAW, CHANGE, VECTOR, LOOKUP, LOOKUP,
                                       LIST, MESSAGE, MESSAGE, WRITE, IMPORT,   IMPORT,   IMPORT, IMPORT, END};
-    return one_in(50) ? CLEAR : kinds[random_below(sizeof kinds / sizeof kinds[0])];
+    const enum kind kind = one_in(50) ? CLEAR : kinds[random_below(sizeof kinds / sizeof kinds[0])];
+    return kind == IMPORT && is_day != one_in(30) ? REPLAY : kind;
 }
 
 /* Puts anything into the counters of both. */
@@ -746,8 +816,8 @@ static void run_table(void)
         compare(&c, &by_hand, &m);
     }
     lend_stream(&by_hand, &m);
-    make_dump(routes);
-    for (int i = 0; i < 100; i++) {
+    make_file(routes);
+    for (int i = 0; i < 120; i++) {
         const struct call *route = &routes[random_below(ROUTES)];
         c.kind = random_kind();
         c.asked = route->asked;
@@ -775,7 +845,8 @@ static void run_table(void)
 /* Says what was met, and ends in failure where a number was not. */
 static int tell(void)
 {
-    static const int numbers[] = {0, 1, 2, 3, 4, 5, 7, 8, 9, 10, 12, 13, 14, 17, 18, 19};
+    static const int numbers[] = {0, 1, 2, 3, 4, 5, 7, 8, 9, 10, 11, 12, 13, 14, 17, 18, 19};
+    static const int under[] = {7, 8, 9, 10, 11};
     int narrow = 0;
     uint64_t calls = 0;
     for (size_t i = 0; i < sizeof numbers / sizeof numbers[0]; i++) {
@@ -792,7 +863,9 @@ static int tell(void)
                   (kind != WRITE && kind != END && (given[kind][1] == 0 || given[kind][2] == 0));
     narrow |= given[LIST][18] == 0 || given[WRITE][18] == 0 || routes_accepted == 0 || routes_refused == 0;
     narrow |= given[IMPORT][12] == 0 || given[IMPORT][14] == 0 || given[IMPORT][19] == 0 || given[END][17] == 0;
+    narrow |= given[REPLAY][12] == 0 || given[REPLAY][14] == 0 || given[REPLAY][19] == 0;
     narrow |= dump_accepted == 0 || dump_refused == 0 || dump_hopless == 0;
+    narrow |= day_figures[1] == 0 || day_figures[0] <= day_figures[1] || day_figures[2] == 0;
     narrow |= unequal_tables == 0 || counts_refused == 0 || values_refused == 0;
     printf("  lists of D: %llu tables with unequal ones, %llu refused for their count, %llu for a value\n",
            (unsigned long long)unequal_tables, (unsigned long long)counts_refused,
@@ -801,7 +874,13 @@ static int tell(void)
            (unsigned long long)routes_refused);
     printf("  records of dumps: %llu accepted, %llu refused, %llu without a hop\n", (unsigned long long)dump_accepted,
            (unsigned long long)dump_refused, (unsigned long long)dump_hopless);
-    printf("  streams ended by any other number: %llu\n", (unsigned long long)other_numbers);
+    printf("  records of days: %llu seen, %llu applied; their routes: %llu accepted",
+           (unsigned long long)day_figures[0], (unsigned long long)day_figures[1], (unsigned long long)day_figures[2]);
+    for (size_t i = 0; i < sizeof under / sizeof under[0]; i++) {
+        printf(", %llu refused with %d", (unsigned long long)day_figures[3 + under[i]], under[i]);
+        narrow |= day_figures[3 + under[i]] == 0;
+    }
+    printf("\n  streams ended by any other number: %llu\n", (unsigned long long)other_numbers);
     printf("%llu calls on %lu tables, every answer and byte agrees\n", (unsigned long long)(calls + other_numbers),
            table);
     if (narrow)

@@ -1,10 +1,8 @@
 -- What a message's first checks tell.
 use Prim.Native.Nat.{ℕ, zero, suc, _+_, _≤_, _<_}
 use mathlib.Core.Path.{_≡_, refl, sym, ap, _∙_}
-use mathlib.Core.Bool.{Bool, true, false, cond, not, _&&_, and-false}
+use mathlib.Core.Bool.{Bool, true, false, cond, not, _&&_, and-true, and-false}
 use mathlib.Core.List.{List}
-use mathlib.Core.Logic.{_⊎_, inl, inr}
-use native.Mathlib.Nat.{eq-or-lt-of-le, le-of-suc-le-suc}
 use native.Mathlib.Numerals.{add-one}
 use native.Mathlib.Omega.{arith}
 use lib.Dec.{leb, eqb}
@@ -23,18 +21,13 @@ use Rattle.message_readers.specs.Readings.{given, hop-read, attributes-n
 use Rattle.message_readers.proofs.Parts.{attributes-refused, hop-told}
 
 module _ (bytes : List ℕ) where
-  pub ones-on : (i : ℕ) → all-ones bytes i ≡ true → byte bytes i ≡ 255 → all-ones bytes (i + 1) ≡ true
+  pub ones-on : (i : ℕ) → byte bytes i ≡ 255 → all-ones bytes (i + 1) ≡ all-ones bytes i
   unfolding all-ones
-  ones-on i ones e = rw (add-one, ones, eq-eqb _ _ e)
+  ones-on i e = rw (add-one, eq-eqb _ _ e) (and-true (all-ones bytes i))
 
-  pub ones-not : (n i : ℕ) → i < n → (byte bytes i ≡ 255 → ⊥) → all-ones bytes n ≡ false
+  pub ones-not : (i : ℕ) → (byte bytes i ≡ 255 → ⊥) → all-ones bytes (i + 1) ≡ false
   unfolding all-ones
-  ones-not zero i l ne = absurd (omega arith)
-  ones-not (suc n) i l ne = go (eq-or-lt-of-le (le-of-suc-le-suc l)) (λ below. ones-not n i below ne)
-    where
-      go : (i ≡ n) ⊎ (i < n) → (i < n → all-ones bytes n ≡ false) → all-ones bytes n && eqb (byte bytes n) 255 ≡ false
-      go (inl e) ih = rw (← e, ne-eqb _ _ ne) (and-false (all-ones bytes i))
-      go (inr below) ih = rw (ih below)
+  ones-not i ne = rw (add-one, ne-eqb _ _ ne) (and-false (all-ones bytes i))
 
 module _ (message : List ℕ) where
   pub too-short : length message < 23 → header-good message ≡ false

@@ -131,19 +131,21 @@ pub fn hop_due(announces: bool, next: NextHop, hops: &[u32]) -> Hop
     find_hop(hops, address)
 }
 
-// Whether the first bytes, so many of them, are all ones.
+// Whether the first bytes, so many of them, are all ones. Nearly all are, so the loop looks at all of them, which
+// the compiler can do at once.
 fn all_ones(bytes: &[u8], count: usize) -> bool
     requires { ⌜ count ≤ length (now bytes) ⌝ }
     ensures { λ r. ⌜ r ≡ all-ones (now (bytes .entry)) count ⌝ }
 {
     let mut i = 0;
+    let mut ones = true;
     while i < count {
         if bytes[i] != 255 {
-            return false;
+            ones = false;
         }
         i += 1;
     }
-    true
+    ones
 }
 
 // Whether marker, length and type are those of an UPDATE of as many bytes as are lent.

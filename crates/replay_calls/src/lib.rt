@@ -14,7 +14,7 @@ ghost use Rattle.stream_chunks.specs.Work.{work};
 ghost use Rattle.replay_format.specs.Messages.{day-kind};
 ghost use Rattle.replay_format.specs.Replaying.{replaying, replay-chunk};
 ghost use Rattle.replay_tally.specs.Steps.{Low};
-ghost use Rattle.replay_calls.specs.Days.{only-seen, Replays, taken-to};
+ghost use Rattle.replay_calls.specs.Days.{only-seen, RecordReplayed, taken-to};
 use message_calls::Applied;
 use message_calls::Counts;
 use message_calls::apply_update;
@@ -83,7 +83,7 @@ fn replay_record(
     requires { ⌜ Counters settings (now counters) ⌝ }
     requires { ⌜ Slots settings (now slots) ⌝ }
     requires { ⌜ size ≤ length (now room) ⌝ }
-    ensures { λ r. ⌜ Replays settings (now (hops .entry)) (take size (now (room .entry))) (now (counters .entry)) (now (slots .entry)) r (now (counters .exit)) (now (slots .exit)) ⌝ }
+    ensures { λ r. ⌜ RecordReplayed settings (now (hops .entry)) (take size (now (room .entry))) (now (counters .entry)) (now (slots .entry)) r (now (counters .exit)) (now (slots .exit)) ⌝ }
 {
     let bytes = &room[..size];
     match read_record(bytes) {
