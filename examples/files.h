@@ -1,5 +1,5 @@
 /* Files of MRT records that the examples take in chunks, the options before them, and the addresses that are asked for
-   afterwards. Whatever is wrong is told on standard error, with the program's name, and 0 is answered. */
+   afterwards. Whatever is wrong is reported on standard error, with the program's name, and 0 is answered. */
 #ifndef FILES_H
 #define FILES_H
 
@@ -121,7 +121,7 @@ static inline void show_progress(struct source *source, unsigned long many, cons
     last = now;
 }
 
-/* Takes that line away. */
+/* Removes that line. */
 static inline void clear_progress(struct source *source)
 {
     if (source->shown)

@@ -427,7 +427,7 @@ GATEWAY_ANSWERS uint64_t gateway_lookup_list(uint32_t k, const uint8_t *d, size_
                                              uint8_t *results, size_t results_bytes);
 
 /*
- * Does one message of a neighbour: an UPDATE of BGP (RFC 4271). Each route that it withdraws is withdrawn, as
+ * Applies one message of a neighbour: an UPDATE of BGP (RFC 4271). Each route that it withdraws is withdrawn, as
  * by gateway_withdraw, and then each that it announces is added, as by gateway_add, in the message's order.
  * A route that the table refuses is counted and skipped, and the others are applied. gateway_accepted and
  * gateway_refused of the answer are the two counts. Together they are the routes of the message, of which
@@ -484,11 +484,11 @@ GATEWAY_ANSWERS uint64_t gateway_write_withdrawal(uint32_t prefix, uint32_t leng
  * - GATEWAY_BAD_CHUNK, if the chunk has more than GATEWAY_CHUNK_BYTES or a count is above 4000000000, then
  *   GATEWAY_BAD_SETTINGS, then GATEWAY_BAD_SIZE. Nothing is changed, and the import can go on with a better chunk;
  * - GATEWAY_LONG_RECORD or GATEWAY_BAD_MESSAGE, at the first record of a route that is too long or not well-formed.
- *   This ends the import. The records before it stay done and counted, those of this chunk too, and nothing that
+ *   This ends the import. The records before it stay applied and counted, those of this chunk too, and nothing that
  *   follows is done. It is well-formed if the prefix is not longer than 32, the last entry ends where the record
  *   does, and the attributes of each entry are what those of a message must be.
  *
- * Half a record that another kind of call has left in the stream means nothing here: its rest is stepped over.
+ * A record of which another kind of call has read a part is stepped over to its end.
  */
 GATEWAY_ANSWERS uint64_t gateway_import(uint32_t k, const uint8_t *d, size_t d_count, uint32_t e, uint32_t s,
                                         uint32_t a, uint32_t b, uint32_t c, uint8_t *counters,
@@ -524,11 +524,10 @@ GATEWAY_ANSWERS uint64_t gateway_import(uint32_t k, const uint8_t *d, size_t d_c
  * - GATEWAY_LONG_RECORD, at the first record that is read whose body is longer than 65536 bytes, with its header's
  *   last byte; or GATEWAY_BAD_MESSAGE, at the first whose body ends before its address family does or, with IPv4,
  *   before both addresses and the 19 bytes of a message's header do, or whose UPDATE gateway_update refuses as
- *   GATEWAY_BAD_MESSAGE. This ends the replay. That record is not seen. The records before it stay done and
+ *   GATEWAY_BAD_MESSAGE. This ends the replay. That record is not seen. The records before it stay applied and
  *   counted, those of this chunk too, and nothing that follows is done.
  *
- * Half a record that another kind of call has left in the stream means nothing here: its rest is stepped over, and
- * it is seen.
+ * A record of which another kind of call has read a part is stepped over to its end, and is seen.
  */
 GATEWAY_ANSWERS uint64_t gateway_replay(uint32_t k, const uint8_t *d, size_t d_count, uint32_t e, uint32_t s,
                                         uint32_t a, uint32_t b, uint32_t c, uint8_t *counters,
@@ -676,7 +675,7 @@ gateway_table_match_vector(const struct gateway_table *table, uint32_t address)
     return claims;
 }
 
-/* Does one message of a neighbour, as gateway_update says: hops are count addresses, and the lowest place of
+/* Applies one message of a neighbour, as gateway_update says: hops are count addresses, and the lowest place of
    the message's NEXT_HOP among them is the hop of the routes that it announces. */
 GATEWAY_ANSWERS static inline struct gateway_report
 gateway_table_update(struct gateway_table *table, const uint8_t *message, size_t message_bytes,

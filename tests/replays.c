@@ -599,8 +599,8 @@ static void run_bad_messages(void)
         MARKER "00 1d 02 00 00 00 06 40 03 03 0a 09 09 ",
         MARKER "00 1f 02 00 00 00 08 40 03 05 0a 09 09 01 00 ",
         MARKER "00 1a 02 00 00 00 03 40 03 00 ",
-        MARKER "00 26 02 00 02 08 0a 00 07 " UNKNOWN_HOP "08 0b 21 00 ",       /* 12 comes before 13 */
-        MARKER "00 1b 02 00 02 08 0a 00 00 08 ",
+        MARKER "00 24 02 00 02 08 0a 00 07 " UNKNOWN_HOP "08 0b 21 00 ",       /* 12 comes before 13 */
+        MARKER "00 1a 02 00 02 08 0a 00 00 08 ",
     };
     for (int two = 0; two < 2; two++) {
         for (size_t i = 0; i < sizeof bad / sizeof bad[0]; i++) {

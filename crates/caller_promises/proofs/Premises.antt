@@ -34,7 +34,7 @@ use Rattle.stream_format.specs.Kept.{ended-word, read-word, left-word, is-ended
 use Rattle.import_format.specs.Routes.{entries-count, entries-from, entry-attributes, after-entry, entry-starts, entries-to, entries, entry-good, ends-well, record-good, entry-hop, chosen-hop, route-hop, record-calls}
 use Rattle.stream_format.specs.Chunks.{record-done, record-over, doing, chunk-refusal, Chunked, chunked, stage-number, lent-back, taken-up, take-chunk}
 use Rattle.import_format.specs.Importing.{counts-more, importing, counts-of, counts-words, counts-high, import-chunk}
-use Rattle.replay_format.specs.Messages.{as-size, family-from, addresses-from, message-from, message-of, is-ipv4, is-update, too-short, holds-update, record-bad, is-applied, record-calls as day-calls}
+use Rattle.replay_format.specs.Messages.{as-size, family-from, addresses-from, message-from, message-of, is-ipv4, is-update, too-short, holds-update, record-bad, is-applied, record-calls as update-calls}
 use Rattle.replay_format.specs.Replaying.{refused-under, tally-more, tally-of, tally-words, tally-high, replaying, replay-chunk}
 use Rattle.promises.specs.History.{stored-by, History, Stop, Then}
 use Rattle.promises.specs.Demands.{Finds, SaysNone, Words, answer-at, paper}
@@ -256,7 +256,7 @@ end-called = EndStreamCalled ([], tt) (lending (filled .words), tt) 0 (lending (
 
 -- to unfold this is to unfold all that a chunk of a day computes with
 unfoldable pub running : ℕ
-unfolding any count as-size family-from addresses-from message-from message-of is-ipv4 is-update too-short holds-update record-bad is-applied day-calls refused-under tally-more tally-of tally-words tally-high replaying replay-chunk filling
+unfolding any count as-size family-from addresses-from message-from message-of is-ipv4 is-update too-short holds-update record-bad is-applied update-calls refused-under tally-more tally-of tally-words tally-high replaying replay-chunk filling
 running = 0
 
 -- a header of 12 bytes, and a body of 54 with the message above: AS numbers of four bytes, IPv4, and two addresses

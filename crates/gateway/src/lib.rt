@@ -219,8 +219,8 @@ pub extern "C" fn gateway_import(
     refusal_part(import_chunk(settings, counters, slots, hops, counts, words, room, chunk))
 }
 
-// Takes one chunk of a recorded day. The tally is 23 words: records seen, UPDATEs applied, routes accepted, and
-// routes refused under each number from 0 to 19.
+// Takes one chunk of a recorded day: applies the UPDATE of each record that is complete with it, and tallies the
+// record in 23 words, which are seen, applied, accepted and refused[0] to refused[19].
 #[no_mangle]
 pub extern "C" fn gateway_replay(
     k: u32,

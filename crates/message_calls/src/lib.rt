@@ -1,5 +1,6 @@
 // A neighbour's message, read and applied: every check is passed before the first byte of the table is
-// written. The call requires nothing: bad input gets its number and changes nothing.
+// written. apply_message requires nothing: bad input gets its number and changes nothing. apply_update is for
+// callers that have checked settings and sizes.
 ghost use Prim.Native.Nat.{_≤_};
 ghost use mathlib.Core.Path.{_≡_};
 ghost use mathlib.Core.Bool.{true};
@@ -35,7 +36,7 @@ fn report_refused(refusal: u32) -> Report
 
 // How many single calls were accepted, how many were refused, and how many of these under each number that a
 // route of a message can be given: 7 (not stored), 8 (the bucket is full), 9 (a counter would pass 15), 10 (a
-// counter would pass 0) and 11 (an odd prefix).
+// counter would pass below 0) and 11 (an odd prefix).
 pub struct Counts {
     pub accepted: u32,
     pub refused: u32,

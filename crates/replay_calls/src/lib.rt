@@ -1,6 +1,6 @@
-// Replays a recorded day that comes in chunks. Each record is tallied as soon as its last byte is there, and its
-// UPDATE applied before that. The call requires nothing, and keeps nothing but what is lent: the tally, the words
-// of the stream and its room.
+// Replays a recorded day that comes in chunks. As soon as a record's last byte is there, its UPDATE is applied and
+// the record is tallied. The call requires nothing, and keeps nothing but what is lent: the tally, the words of
+// the stream and its room.
 ghost use Prim.Native.Nat.{_≤_};
 ghost use mathlib.Core.Path.{_≡_};
 ghost use mathlib.Core.Bool.{true};

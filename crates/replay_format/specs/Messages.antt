@@ -1,5 +1,5 @@
--- A record of a day: what a neighbour sent, with the header of the whole and its AS numbers and addresses before it. Places are
--- counted from the first byte of the record, its header's, as the room has it; the record ends with its body.
+-- A record of a day: its header, AS numbers, interface, family and addresses, and then a message. Places are counted from the
+-- first byte of the record, its header's, as the room has it; the record ends with its body.
 use Prim.Native.Nat.{ℕ, _+_, _*_}
 use mathlib.Core.Bool.{Bool, cond, not, _&&_, _||_}
 use mathlib.Core.List.{List, []}
@@ -65,6 +65,6 @@ record-bad bytes = too-short bytes || (holds-update bytes && not (well-formed (m
 unfoldable pub is-applied : (bytes hops : List ℕ) → Bool
 is-applied bytes hops = holds-update bytes && eqb (update-refusal (message-of bytes) hops) 0
 
--- such a record is the single calls of its UPDATE; any other is no call
+-- such a record makes the single calls of its UPDATE; any other makes none
 unfoldable pub record-calls : (bytes hops : List ℕ) → List Call
 record-calls bytes hops = cond (is-applied bytes hops) (message-calls (message-of bytes) hops) []

@@ -7,11 +7,12 @@ use native.Mathlib.Omega.{arith}
 use lib.Dec.{leb, eqb}
 use lib.ListN.{length}
 use borrow.Author.Tests.{le-leb, lt-leb, leb-true, ne-eqb}
+use Rattle.rules.specs.Table.{refuse}
 use Rattle.message_format.specs.Format.{byte, two-bytes}
 use Rattle.replay_format.specs.Messages.{as-size, family-from, addresses-from, message-from, is-ipv4, is-update, too-short, holds-update}
 use Rattle.replay_readers.specs.declared.Held.{Held}
 use Rattle.replay_readers.specs.declared.Held.the-variants.{Update, Other, Fault}
-use Rattle.replay_readers.specs.Held.{record-held}
+use Rattle.replay_readers.specs.Held.{record-held, held-number}
 
 module _ (bytes : List ℕ) where
   -- ---- A record, check by check
@@ -57,6 +58,16 @@ module _ (bytes : List ℕ) where
         update-held update = rw (le-leb _ _ whole, family, le-leb _ _ long, update)
 
 -- ---- What the answer tells
+
+-- its number is the one that a record is given for being too short
+pub held-refused : (bytes : List ℕ) → held-number (record-held bytes) ≡ refuse (too-short bytes) 12 0
+unfolding record-held held-number refuse
+held-refused bytes = go (too-short bytes) (holds-update bytes)
+  where
+    go : (short update : Bool) → held-number (cond short Fault (cond update (Update (message-from bytes)) Other)) ≡ refuse short 12 0
+    go true update = refl
+    go false true = refl
+    go false false = refl
 
 -- an UPDATE of IPv4: its place is in the record
 pub record UpdateTold (bytes : List ℕ) (at : ℕ) : Type 0 where

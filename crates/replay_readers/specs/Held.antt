@@ -10,3 +10,9 @@ use Rattle.replay_readers.specs.declared.Held.the-variants.{Update, Othe
 unfoldable pub record-held : (bytes : List ℕ) → Held
 record-held bytes =
     cond (too-short bytes) Fault (cond (holds-update bytes) (Update (message-from bytes)) Other)
+
+-- the number that an answer means; what an UPDATE is refused for is asked after it
+unfoldable pub held-number : Held → ℕ
+held-number (Update at) = 0
+held-number Other = 0
+held-number Fault = 12

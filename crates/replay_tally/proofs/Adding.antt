@@ -63,7 +63,7 @@ pub added-none : (earlier : Tally) → tally-added earlier 0 none-counted ≡ ta
 unfolding tallied accepted-of refused-of those count all
 added-none earlier = added-more earlier false none-counted [] refl refl
 
--- ---- Room for it
+-- ---- Addable for it
 
 -- there may be more
 pub low-within : {tally : Tally} {some more : ℕ} → Low tally some → some ≤ more → Low tally more

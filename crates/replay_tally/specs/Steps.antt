@@ -21,7 +21,7 @@ tally-added earlier applied counts =
           ∷ [];
     }
 
--- no figure has passed so many more than 4,000,000,000
+-- every figure is at most so many above 4,000,000,000
 pub record Low (tally : Tally) (more : ℕ) : Type 0 where
   pub seen-low : tally .seen ≤ 4000000000 + more
   pub applied-low : tally .applied ≤ 4000000000 + more
@@ -38,7 +38,7 @@ pub record OfOne (counts : Counts) : Type 0 where
   pub odd-few : counts .odd ≤ 4096
 
 -- every figure has room for what is added
-pub record Room (tally : Tally) (applied : ℕ) (counts : Counts) : Type 0 where
+pub record Addable (tally : Tally) (applied : ℕ) (counts : Counts) : Type 0 where
   pub low : Low tally 268435456
   pub one : applied ≤ 1
   pub few : OfOne counts

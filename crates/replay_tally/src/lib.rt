@@ -2,13 +2,13 @@
 // stands, once for each record.
 ghost use mathlib.Core.Path.{_≡_};
 ghost use Rattle.replay_format.specs.Replaying.{tally-of, tally-words, tally-high};
-ghost use Rattle.replay_tally.specs.Steps.{tally-added, Room};
+ghost use Rattle.replay_tally.specs.Steps.{tally-added, Addable};
 use message_calls::Counts;
 use replay_format::Tally;
 
 // The tally with one record more: 1 where its UPDATE was applied, or 0, and what was counted of its routes.
 fn step(earlier: Tally, applied: u32, counts: Counts) -> Tally
-    requires { ⌜ Room earlier applied counts ⌝ }
+    requires { ⌜ Addable earlier applied counts ⌝ }
     ensures { λ r. ⌜ r ≡ tally-added earlier applied counts ⌝ }
 {
     let refused = earlier.refused;
@@ -43,7 +43,7 @@ fn step(earlier: Tally, applied: u32, counts: Counts) -> Tally
 
 // Notes one record in a lent tally.
 pub fn note(tally: &mut Tally, applied: u32, counts: Counts)
-    requires { ⌜ Room (now tally) applied counts ⌝ }
+    requires { ⌜ Addable (now tally) applied counts ⌝ }
     ensures { λ _. ⌜ now (tally .exit) ≡ tally-added (now (tally .entry)) applied counts ⌝ }
 {
     *tally = step(*tally, applied, counts);
@@ -51,7 +51,7 @@ pub fn note(tally: &mut Tally, applied: u32, counts: Counts)
 
 // Lends a tally to be noted in, and gives it back.
 pub fn noted(tally: Tally, applied: u32, counts: Counts) -> Tally
-    requires { ⌜ Room tally applied counts ⌝ }
+    requires { ⌜ Addable tally applied counts ⌝ }
     ensures { λ r. ⌜ r ≡ tally-added tally applied counts ⌝ }
 {
     let mut lent = tally;

@@ -43,7 +43,7 @@ use Rattle.replay_format.proofs.Tally.Laws as T′
 use Rattle.message_calls.specs.declared.Counts.{Counts}
 use Rattle.message_calls.proofs.Counts as N
 use Rattle.message_calls.proofs.Counts.Laws as N′
-use Rattle.replay_tally.specs.Steps.{tally-added, Room}
+use Rattle.replay_tally.specs.Steps.{tally-added, Addable}
 use Rattle.replay_tally.proofs.Walking.{tally-val, counts-val, IsTally, IsCounts, tally-typed, counts-typed, tally-had, Others, others-had}
 use Rattle.replay_tally.proofs.step as step
 use Rattle.replay_tally.proofs.step.Symbol as step-def
@@ -67,7 +67,7 @@ module _ {M : Type 1} (𝓤 : URA M) (H : Heap 𝓤) (A : Atoms 𝓤) (at-mem : 
   stepped-of h n c r = exE 𝓤 _ (λ ws. snd∗ 𝓤 (sem 𝓤 H A (lasts step.ended tt (h, (n, (c, tt))) ws)) (fact 𝓤 (r ≡ tally-added h n c)))
 
 module _ {M : Type 1} (𝓤 : URA M) (H : Heap 𝓤) (A : Atoms 𝓤) (W : Given 𝓤 H A) (at-mem : Memory → SProp 𝓤) (run : Routine → Fun 𝓤) (κ : Lft) (q : Share) (b o : ℕ) (γ : GName) (h : Tally) (n : ℕ) (c : Counts)
-    (fits : n < 2 ^ 32) (are : IsCounts c (counts-val c)) (room : Room h n c) where
+    (fits : n < 2 ^ 32) (are : IsCounts c (counts-val c)) (room : Addable h n c) where
   abbrev Arg : Type 0
   Arg = RefT Tally × (ℕ × (Counts × Unit {0}))
 
@@ -124,7 +124,7 @@ module _ {M : Type 1} (𝓤 : URA M) (H : Heap 𝓤) (A : Atoms 𝓤) (W : Given
   note-walks : (C : Calls 𝓤 H) (Λ : Loops 𝓤 H) → FmC 𝓤 H (W .laws) C → Triple 𝓤 (C #replay-tally·step) (Step 𝓤 H A at-mem run) → Walks 𝓤 H A f.ended stayed (WpFn 𝓤 H C Λ code.function) (f.clauses 𝓤 H A at-mem run)
   note-walks C Λ fm known-step = walked 𝓤 H A f.ended stayed (f.clauses 𝓤 H A at-mem run) (WpFn 𝓤 H C Λ code.function)
       (λ κs. (ptr-vals, (uint-vals w32, (LL.vals N.the-type N′.the-laws, tt)))) (λ κs. (mut-tells (named 0) (κs .0) T.the-row, (uint-tells w32, (LL.tells N.the-type N′.the-laws, tt))))
-      (λ κs qs bounds a g are. needs 𝓤 (Room (a .0 .now) (a .1 .0) (a .1 .1 .0)) _ (λ room.
+      (λ κs qs bounds a g are. needs 𝓤 (Addable (a .0 .now) (a .1 .0) (a .1 .1 .0)) _ (λ room.
       walk 𝓤 H A W at-mem run (κs .0) (qs .0) (a .0 .ptr .0) (a .0 .ptr .1) (a .0 .name) (a .0 .now) (a .1 .0) (a .1 .1 .0) (are .1 .0 .1) (are .1 .1 .0) room C Λ fm known-step))
 
   goes : AllGo 𝓤 H A W 1 (f.signature .params) (f.ended .kept) stayed

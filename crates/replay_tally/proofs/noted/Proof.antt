@@ -44,7 +44,7 @@ use Rattle.replay_format.proofs.Tally.Laws as T′
 use Rattle.message_calls.specs.declared.Counts.{Counts}
 use Rattle.message_calls.proofs.Counts as N
 use Rattle.message_calls.proofs.Counts.Laws as N′
-use Rattle.replay_tally.specs.Steps.{tally-added, Room}
+use Rattle.replay_tally.specs.Steps.{tally-added, Addable}
 use Rattle.replay_tally.proofs.Walking.{tally-val, counts-val, IsTally, IsCounts, tally-typed, counts-typed, tally-had, Others, others-had}
 use Rattle.replay_tally.proofs.note as note
 use Rattle.replay_tally.proofs.note.Symbol as note-def
@@ -64,7 +64,7 @@ module _ {M : Type 1} (𝓤 : URA M) (H : Heap 𝓤) (A : Atoms 𝓤) (at-mem : 
   Note = tripleOf 𝓤 H A note.signature (note.spec 𝓤 H A at-mem run)
 
 module _ {M : Type 1} (𝓤 : URA M) (H : Heap 𝓤) (A : Atoms 𝓤) (W : Given 𝓤 H A) (at-mem : Memory → SProp 𝓤) (run : Routine → Fun 𝓤) (h : Tally) (n : ℕ) (c : Counts)
-    (is-tally : IsTally h (tally-val h)) (fits : n < 2 ^ 32) (is-counts : IsCounts c (counts-val c)) (room : Room h n c) where
+    (is-tally : IsTally h (tally-val h)) (fits : n < 2 ^ 32) (is-counts : IsCounts c (counts-val c)) (room : Addable h n c) where
   abbrev Arg : Type 0
   Arg = Tally × (ℕ × (Counts × Unit {0}))
 
@@ -130,7 +130,7 @@ module _ {M : Type 1} (𝓤 : URA M) (H : Heap 𝓤) (A : Atoms 𝓤) (W : Given
   noted-walks : (C : Calls 𝓤 H) (Λ : Loops 𝓤 H) → FmC 𝓤 H (W .laws) C → Triple 𝓤 (C #replay-tally·note) (Note 𝓤 H A at-mem run) → Walks 𝓤 H A f.ended stayed (WpFn 𝓤 H C Λ code.function) (f.clauses 𝓤 H A at-mem run)
   noted-walks C Λ fm known-note = walked 𝓤 H A f.ended stayed (f.clauses 𝓤 H A at-mem run) (WpFn 𝓤 H C Λ code.function)
       (λ κs. (LL.vals T.the-type T′.the-laws, (uint-vals w32, (LL.vals N.the-type N′.the-laws, tt)))) (λ κs. (LL.tells T.the-type T′.the-laws, (uint-tells w32, (LL.tells N.the-type N′.the-laws, tt))))
-      (λ κs qs bounds a g are. needs 𝓤 (Room (a .0) (a .1 .0) (a .1 .1 .0)) _ (λ room. walk 𝓤 H A W at-mem run (a .0) (a .1 .0) (a .1 .1 .0) (are .0) (are .1 .0 .1) (are .1 .1 .0) room C Λ fm known-note))
+      (λ κs qs bounds a g are. needs 𝓤 (Addable (a .0) (a .1 .0) (a .1 .1 .0)) _ (λ room. walk 𝓤 H A W at-mem run (a .0) (a .1 .0) (a .1 .1 .0) (are .0) (are .1 .0 .1) (are .1 .1 .0) room C Λ fm known-note))
 
   goes : AllGo 𝓤 H A W 0 (f.signature .params) (f.ended .kept) stayed
   goes = (goes-none 𝓤 H A W 0 (λ _. T.the-row) yes (λ κs x f. refl), (goes-none 𝓤 H A W 0 (λ _. u32) yes (λ κs x f. refl), (goes-none 𝓤 H A W 0 (λ _. N.the-row) yes (λ κs x f. refl), tt)))
