@@ -6,7 +6,7 @@ use mathlib.Core.Bool.{true, false≢true}
 use mathlib.Core.List.{List, [], _∷_, _++_, append-nil}
 use native.Mathlib.Nat.{add-zero, add-assoc, sub-zero, sub-add-eq}
 use native.Mathlib.Omega.{arith}
-use lib.ListN.{length, take, drop, set, length-append, length-drop}
+use lib.ListN.{length, take, drop, getD, set, length-append, length-drop}
 use lib.Seq.{sets, append-snoc, drop-drop, drop-length}
 use borrow.Author.Tests.{lt-ltb, le-ltb}
 use Rattle.stream_format.specs.declared.Kind.{Kind}
@@ -24,6 +24,18 @@ use Rattle.stream_records.specs.Runs.{completes, up-to-record, Sound, So
 pub sets-more : (room : List ℕ) (at : ℕ) (bytes : List ℕ) (b : ℕ) → sets room at (bytes ++ b ∷ []) ≡ set (sets room at bytes) (at + length bytes) b
 sets-more room at [] b = rw add-zero
 sets-more room at (a ∷ bytes) b = sets-more (set room at a) (suc at) bytes b ∙ ap (λ n. set (sets (set room at a) (suc at) bytes) n b) (omega arith)
+
+-- the values at the first so many places
+abbrev pub values : (n : ℕ) (value : ℕ → ℕ) → List ℕ
+values zero value = []
+values (suc n) value = value 0 ∷ values n (λ i. value (suc i))
+
+-- a list of so many elements is those, one after the other
+pub elements : (n : ℕ) (bytes : List ℕ) → length bytes ≡ n → values n (λ i. getD bytes i 0) ≡ bytes
+elements zero [] h = refl
+elements zero (b ∷ bytes) h = absurd (omega arith)
+elements (suc n) [] h = absurd (omega arith)
+elements (suc n) (b ∷ bytes) h = ap (λ (rest : List ℕ). b ∷ rest) (elements n bytes (omega arith))
 
 -- ---- Runs
 

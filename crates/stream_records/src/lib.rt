@@ -146,6 +146,38 @@ fn keep_bytes(room: &mut [u8; 65548], from: usize, bytes: &[u8])
     }
 }
 
+// Copies a whole header into the room. All bytes are read before one is stored: so the compiler can copy many at
+// a time, though it does not know that they lie outside the room.
+fn keep_header(room: &mut [u8; 65548], bytes: &[u8])
+    requires { ⌜ length (now bytes) ≡ 12 ⌝ }
+    ensures { λ _. ⌜ now (room .exit) ≡ sets (now (room .entry)) 0 (now (bytes .entry)) ⌝ }
+{
+    let byte0 = bytes[0];
+    let byte1 = bytes[1];
+    let byte2 = bytes[2];
+    let byte3 = bytes[3];
+    let byte4 = bytes[4];
+    let byte5 = bytes[5];
+    let byte6 = bytes[6];
+    let byte7 = bytes[7];
+    let byte8 = bytes[8];
+    let byte9 = bytes[9];
+    let byte10 = bytes[10];
+    let byte11 = bytes[11];
+    room[0] = byte0;
+    room[1] = byte1;
+    room[2] = byte2;
+    room[3] = byte3;
+    room[4] = byte4;
+    room[5] = byte5;
+    room[6] = byte6;
+    room[7] = byte7;
+    room[8] = byte8;
+    room[9] = byte9;
+    room[10] = byte10;
+    room[11] = byte11;
+}
+
 // Takes bytes of a record that is read.
 fn take_body(read: usize, left: usize, room: &mut [u8; 65548], chunk: &[u8], at: usize) -> Next
     requires { ⌜ 12 ≤ read ⌝ }
@@ -230,13 +262,28 @@ fn after_header(kind: Kind, room: &mut [u8; 65548], chunk: &[u8], at: usize) -> 
     step_over(size, chunk, at)
 }
 
-// Takes bytes of a header, and then of the record that it begins.
+// Takes a whole header, and then bytes of the record that it begins.
+fn take_whole_header(kind: Kind, room: &mut [u8; 65548], chunk: &[u8], at: usize) -> Next
+    requires { ⌜ at + 12 ≤ length (now chunk) ⌝ }
+    ensures { λ r. ⌜ GoesFrom kind (Header 0) (now (room .entry)) (now (chunk .entry)) at r (now (room .exit)) ⌝ }
+{
+    let body = at + 12;
+    keep_header(room, &chunk[at..body]);
+    after_header(kind, room, chunk, body)
+}
+
+// Takes bytes of a header, and then of the record that it begins. Most headers lie whole in a chunk.
 fn take_header(kind: Kind, read: usize, room: &mut [u8; 65548], chunk: &[u8], at: usize) -> Next
     requires { ⌜ read < 12 ⌝ }
     requires { ⌜ at ≤ length (now chunk) ⌝ }
     ensures { λ r. ⌜ GoesFrom kind (Header read) (now (room .entry)) (now (chunk .entry)) at r (now (room .exit)) ⌝ }
 {
     let more = chunk.len() - at;
+    if read == 0 {
+        if more >= 12 {
+            return take_whole_header(kind, room, chunk, at);
+        }
+    }
     if more < 12 - read {
         keep_bytes(room, read, &chunk[at..]);
         return Next {
