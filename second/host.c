@@ -10,9 +10,9 @@
  * what the call has beside them: for a list where its addresses begin and how many bytes they have, and the
  * same of its results; for a message the same of its bytes and of the words of its next hops; for a
  * withdrawal to be written prefix and length, and the same of its room; for an import the same of its chunk
- * and of the words of its next hops, and where the counts, the words and the room of its stream begin; for the
- * end of a stream where its words begin, the sixth of these. What a call does not have is zero. An answer is
- * one such number.
+ * and of the words of its next hops, and where the counts, the words and the room of its stream begin; for a
+ * replay the same, with the tally in place of the counts; for the end of a stream where its words begin, the
+ * sixth of these. What a call does not have is zero. An answer is one such number.
  */
 #define _XOPEN_SOURCE 600
 
@@ -28,7 +28,8 @@
 #include <unistd.h>
 
 enum {
-    CLEAR, ADD, WITHDRAW, CHANGE, VECTOR, LOOKUP, LOOKUP_LIST, UPDATE, WRITE_WITHDRAWAL, IMPORT, END_STREAM
+    CLEAR, ADD, WITHDRAW, CHANGE, VECTOR, LOOKUP, LOOKUP_LIST, UPDATE, WRITE_WITHDRAWAL, IMPORT, REPLAY,
+    END_STREAM
 };
 
 enum { NUMBERS = 20, SECONDS_TO_END = 20, CALLS_BETWEEN = 256 };
@@ -66,6 +67,9 @@ static uint64_t answer(uint8_t *memory, const uint64_t n[NUMBERS])
     case WRITE_WITHDRAWAL: return gateway_write_withdrawal(asked, length, memory + n[15], n[16]);
     case IMPORT:
         return gateway_import(WORDS, words_at(memory, n[15]), n[16], words_at(memory, n[17]),
+                              words_at(memory, n[18]), memory + n[19], memory + n[13], n[14]);
+    case REPLAY:
+        return gateway_replay(WORDS, words_at(memory, n[15]), n[16], words_at(memory, n[17]),
                               words_at(memory, n[18]), memory + n[19], memory + n[13], n[14]);
     case END_STREAM: return gateway_end_stream(words_at(memory, n[18]));
     default: errno = EINVAL; fail("an unknown call"); return 0;

@@ -99,24 +99,37 @@ pub struct Writing {
     pub offset: usize,
 }
 
-/// Where the counts, the words and the room of a stream begin, in bytes after their places.
+/// What the bytes of a stream are taken for, and so by which call: by an import or by a replay.
+#[derive(Clone, Copy, Debug, PartialEq, Eq)]
+pub enum Of {
+    Dump,
+    Day,
+}
+
+/// How many figures the tally of a replay has.
+pub const FIGURES: usize = 23;
+
+/// Where the counts, the tally, the words and the room of a stream begin, in bytes after their places.
 #[derive(Clone, Copy, Debug)]
 pub struct StreamOffsets {
     pub counts: usize,
+    pub tally: usize,
     pub words: usize,
     pub room: usize,
 }
 
-/// A chunk of a dump, which begins so many bytes after a word's address, and the list of next hops, which begins
+/// A chunk of a stream, which begins so many bytes after a word's address, and the list of next hops, which begins
 /// so many words after its place.
 #[derive(Clone, Debug)]
-pub struct Import {
-    pub chunk: Vec<u8>,
+pub struct Chunk {
+    pub of: Of,
+    pub bytes: Vec<u8>,
     pub offset: usize,
     pub hops: Rc<[u32]>,
     pub hops_offset: usize,
     /// What the stream holds before the call, but of its room the header alone, and where it lies.
     pub counts: [u32; 3],
+    pub tally: [u32; FIGURES],
     pub words: [u32; 3],
     pub header: [u8; 12],
     pub offsets: StreamOffsets,
@@ -136,7 +149,7 @@ pub enum AnyCall<'a> {
     List(&'a List),
     Message(&'a Message),
     Writing(&'a Writing),
-    Import(&'a Import),
+    Chunk(&'a Chunk),
     End(&'a End),
 }
 
@@ -146,7 +159,7 @@ impl AnyCall<'_> {
         match self {
             AnyCall::One(call) => call.units(),
             AnyCall::List(_) => 4,
-            AnyCall::Message(_) | AnyCall::Writing(_) | AnyCall::Import(_) | AnyCall::End(_) => 1,
+            AnyCall::Message(_) | AnyCall::Writing(_) | AnyCall::Chunk(_) | AnyCall::End(_) => 1,
         }
     }
 }
@@ -175,9 +188,9 @@ impl<'a> From<&'a Writing> for AnyCall<'a> {
     }
 }
 
-impl<'a> From<&'a Import> for AnyCall<'a> {
-    fn from(import: &'a Import) -> Self {
-        AnyCall::Import(import)
+impl<'a> From<&'a Chunk> for AnyCall<'a> {
+    fn from(chunk: &'a Chunk) -> Self {
+        AnyCall::Chunk(chunk)
     }
 }
 
@@ -194,13 +207,13 @@ pub struct Lent {
     pub slots: usize,
 }
 
-/// What an import is lent beside its table and its chunk.
+/// What an import or a replay is lent beside its table and its chunk.
 #[derive(Clone, Debug, PartialEq, Eq)]
 pub struct Stream {
     /// Of an import: routes accepted, routes refused, records with none.
     pub counts: [u32; 3],
     /// Of a replay: records seen, UPDATEs applied, routes accepted, and routes refused under each number from 0 to 19.
-    pub tally: [u32; 23],
+    pub tally: [u32; FIGURES],
     pub words: [u32; 3],
     /// Always 65,548 bytes.
     pub room: Vec<u8>,

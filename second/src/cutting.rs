@@ -1,8 +1,8 @@
-//! Ways in which a dump is cut into chunks.
+//! Ways in which a dump or a recorded day is cut into chunks.
 
 use crate::random::Random;
-use crate::random_dumps::Dump;
 use crate::record_draft::HEADER;
+use crate::recordings::Recording;
 
 /// The most bytes of a chunk that is not refused.
 pub const MOST_TAKEN: usize = 65_536;
@@ -29,28 +29,29 @@ pub enum Cut {
     Mixed,
 }
 
-/// Only so small a dump is cut byte by byte, and one with so long a list of next hops in few chunks.
+/// Only so small a recording is cut byte by byte, and one with so long a list of next hops in few chunks.
 const SMALL: usize = 250;
 const LONG_LIST: usize = 1000;
 
 impl Cut {
-    pub fn random(random: &mut Random, dump: &Dump) -> Cut {
-        if dump.hops.len() > LONG_LIST {
+    pub fn random(random: &mut Random, recording: &Recording) -> Cut {
+        if recording.hops.len() > LONG_LIST {
             return random.pick(&[Cut::Whole, Cut::Records, Cut::Upto(2000)]);
         }
-        let small = if dump.bytes.len() <= SMALL { Cut::Bytes } else { Cut::Upto(100) };
-        let upto = Cut::Upto(random.pick(&[10, 30, 300]) * (1 + dump.bytes.len() as u32 / 1000));
+        let small = if recording.bytes.len() <= SMALL { Cut::Bytes } else { Cut::Upto(100) };
+        let upto = Cut::Upto(random.pick(&[10, 30, 300]) * (1 + recording.bytes.len() as u32 / 1000));
         random.pick(&[Cut::Whole, Cut::Whole, small, upto, upto, Cut::Records, Cut::Edges, Cut::Mixed])
     }
 
-    /// How many bytes the next chunk has, from a place of a dump on.
-    pub fn size(self, random: &mut Random, dump: &Dump, at: usize) -> usize {
-        let left = dump.bytes.len() - at;
+    /// How many bytes the next chunk has, from a place of a recording on.
+    pub fn size(self, random: &mut Random, recording: &Recording, at: usize) -> usize {
+        let left = recording.bytes.len() - at;
         if left == 0 || random.percent(EMPTY) {
             return 0;
         }
-        let start = dump.records.iter().rev().find(|start| **start <= at).copied().unwrap_or(0);
-        let end = dump.records.iter().find(|start| **start > at).copied().unwrap_or(dump.bytes.len());
+        let start = recording.records.iter().rev().find(|start| **start <= at).copied().unwrap_or(0);
+        let end =
+            recording.records.iter().find(|start| **start > at).copied().unwrap_or(recording.bytes.len());
         let small = !matches!(self, Cut::Whole | Cut::Records);
         if small && end - at > FAR && at - start >= HEADER {
             // The most that a chunk can have, and up to the record's last bytes.
@@ -72,7 +73,7 @@ impl Cut {
             }
             Cut::Mixed => {
                 let one = [Cut::Whole, Cut::Bytes, Cut::Upto(30), Cut::Upto(300), Cut::Records, Cut::Edges];
-                return random.pick(&one).size(random, dump, at);
+                return random.pick(&one).size(random, recording, at);
             }
         };
         size.min(left).min(MOST_TAKEN)

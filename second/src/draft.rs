@@ -3,7 +3,7 @@
 use crate::random::Random;
 
 /// The type of an UPDATE, and that of the attribute NEXT_HOP.
-const UPDATE: u8 = 2;
+pub const UPDATE: u8 = 2;
 const NEXT_HOP: u8 = 3;
 
 /// The flag of an attribute whose length has two bytes.

@@ -1,82 +1,98 @@
-//! A dump that is fed to the library chunk by chunk: how its stream begins, which bytes come next, and what a history
-//! does with it.
+//! A dump or a recorded day that is fed to the library chunk by chunk: how its stream begins, which bytes come next,
+//! and what a history does with it.
 
-use crate::calls::Import;
+use crate::calls::{Chunk, Lent, Of, Settings, Stream};
 use crate::cutting::{Cut, MOST_TAKEN};
 use crate::history::{source, Failure, History};
 use crate::library::{Area, Library, MOST_CHUNK, ROOM};
 use crate::pair::{Difference, Pair};
+use crate::paper_days::SEEN;
+use crate::paper_streams::first_record;
 use crate::random::Random;
-use crate::random_dumps::{self, counts, Dump, MOST_COUNTED};
-use crate::spoilt_records::Spoil;
+use crate::random_days::day;
+use crate::random_dumps::dump;
+use crate::recordings::{any_words, figures, Recording, Spoilt, MOST_COUNTED};
 use crate::streams::StreamPair;
+use crate::tally::Tally;
 use std::rc::Rc;
 
-/// So many streams of a hundred begin with any words, and so many dumps are fed to a second table too, which is the
-/// same, cut in another way.
+/// So many streams of a hundred begin with any words, and so many are fed to a second table too, which is the same,
+/// cut in another way.
 const ANY_WORDS: usize = 25;
-const TWO_WAYS: usize = 20;
+const TWO_WAYS: usize = 15;
+
+/// So many chunks of a hundred are taken by the calls that the stream is not for.
+const MIXED: usize = 2;
+
+/// What comes in turn, so that a run meets it all: the figures that are at a limit, and what is wrong about a day.
+pub struct Turns {
+    pub counts: usize,
+    pub figures: usize,
+    pub spoils: usize,
+}
 
 pub struct Feeding {
-    dump: Dump,
+    recording: Recording,
     cut: Cut,
     /// How many bytes have come, and how many of them had before the stream began.
     at: usize,
     start: usize,
     /// Whether the stream began with words that are zero.
     from_start: bool,
+    /// Which calls took the last chunk, and whether all chunks were taken by those that the stream is for.
+    last: Of,
+    alone: bool,
+    /// Where the first record begins that was not seen.
+    unseen: usize,
 }
 
 impl Feeding {
-    /// A dump whose stream begins. Its words are zero, or any if that is asked.
+    /// A recording whose stream begins. Its words are zero, or any if that is asked.
     pub fn begin(
         random: &mut Random,
         library: &mut Library,
         pair: &mut Pair,
-        dump: Dump,
-        any_words: bool,
+        recording: Recording,
+        any: bool,
     ) -> Feeding {
-        let cut = Cut::random(random, &dump);
-        let (words, room, start) = if any_words {
-            let (words, room, start) = random_dumps::any_words(random, &dump);
+        let cut = Cut::random(random, &recording);
+        let (words, room, start) = if any {
+            let (words, room, start) = any_words(random, &recording);
             (words, Some(room), start)
         } else {
             ([0; 3], random.percent(20).then(|| random.bytes(ROOM)), 0)
         };
-        let counts = counts(random);
-        pair.stream.begin(library, pair.area, random.below(64), counts, words, room);
-        Feeding { dump, cut, at: start, start, from_start: words == [0; 3] }
+        pair.stream.begin(library, pair.area, random.below(64), words, room);
+        let (last, from_start) = (recording.of, words == [0; 3]);
+        Feeding { recording, cut, at: start, start, from_start, last, alone: true, unseen: 0 }
     }
 
-    /// The same dump from its start, cut in another way.
+    /// The same recording from its start, cut in another way.
     pub fn again(self, random: &mut Random) -> Feeding {
-        Feeding { cut: Cut::random(random, &self.dump), at: self.start, ..self }
+        let cut = Cut::random(random, &self.recording);
+        Feeding { cut, at: self.start, last: self.recording.of, alone: true, unseen: 0, ..self }
+    }
+
+    /// What the stream is for.
+    pub fn of(&self) -> Of {
+        self.recording.of
     }
 
     /// Whether all bytes have come.
     pub fn done(&self) -> bool {
-        self.at == self.dump.bytes.len()
-    }
-
-    /// What is wrong about a record of a dump whose stream began with words that are zero.
-    pub fn spoilt(&self) -> Option<Spoil> {
-        self.dump.spoilt.filter(|_| self.from_start)
-    }
-
-    pub fn hops(&self) -> Rc<[u32]> {
-        self.dump.hops.clone()
+        self.at == self.recording.bytes.len()
     }
 
     /// The next chunk.
     pub fn chunk(&self, random: &mut Random) -> Vec<u8> {
-        let size = self.cut.size(random, &self.dump, self.at);
-        self.dump.bytes[self.at..self.at + size].to_vec()
+        let size = self.cut.size(random, &self.recording, self.at);
+        self.recording.bytes[self.at..self.at + size].to_vec()
     }
 
     /// The next bytes as a chunk that is too long, with others after them if there are not so many.
-    pub fn long_chunk(&self, random: &mut Random) -> Vec<u8> {
+    fn long_chunk(&self, random: &mut Random) -> Vec<u8> {
         let size = random.pick(&[MOST_TAKEN + 1, MOST_TAKEN + 1, MOST_TAKEN + 2, 70_000, MOST_CHUNK]);
-        let mut chunk = self.dump.bytes[self.at..].to_vec();
+        let mut chunk = self.recording.bytes[self.at..].to_vec();
         let more = size.saturating_sub(chunk.len());
         chunk.extend(random.bytes(more));
         chunk.truncate(size);
@@ -84,8 +100,36 @@ impl Feeding {
     }
 
     /// So many bytes more have come, be they taken or not.
-    pub fn went(&mut self, size: usize) {
-        self.at += size;
+    fn went(&mut self, size: usize) {
+        self.at = (self.at + size).min(self.recording.bytes.len());
+    }
+
+    /// Counts what a chunk has met that was taken, by its number and by what the stream holds after it.
+    fn count(&mut self, tally: &mut Tally, chunk: &Chunk, number: u64, after: &Stream) {
+        if chunk.of != self.last {
+            tally.count_mixed(chunk);
+        }
+        self.last = chunk.of;
+        self.alone &= chunk.of == self.of();
+        if !self.from_start || !self.alone {
+            return;
+        }
+        if chunk.of == Of::Day {
+            for _ in chunk.tally[SEEN]..after.tally[SEEN] {
+                let Some((record, _)) = first_record(&self.recording.bytes[self.unseen..]) else {
+                    break;
+                };
+                self.unseen += record.len();
+                tally.replays.count_record(record, &chunk.hops);
+            }
+        }
+        match (number, self.recording.spoilt) {
+            (12 | 14, Some((_, Spoilt::Dump(spoil)))) => tally.imports.count_spoilt(spoil),
+            (12 | 14, Some((at, Spoilt::Day(spoil)))) if at == self.unseen => {
+                tally.replays.count_spoilt(spoil)
+            }
+            _ => {}
+        }
     }
 }
 
@@ -94,18 +138,24 @@ pub fn ended(stream: &StreamPair) -> bool {
     stream.held().words[0] != 0
 }
 
-/// Whether a count stands in the way of the next chunk.
+/// Whether a figure stands in the way of the next chunk.
 fn counted_full(stream: &StreamPair) -> bool {
-    stream.held().counts.iter().any(|count| *count > MOST_COUNTED)
+    let Stream { counts, tally, .. } = stream.held();
+    counts.iter().chain(tally).any(|figure| *figure > MOST_COUNTED)
 }
 
 impl History<'_> {
-    /// Goes on with a dump by a chunk or a few; begins one where none is under way.
+    /// Goes on with a dump or a day by a chunk or a few; begins one where none is under way.
     pub fn go_on(&mut self, pair: &mut Pair, damaged: bool) -> Result<(), Failure> {
         let again = if ended(&pair.stream) { 50 } else { 1 };
         if self.feeding.is_none() || self.random.percent(again) {
             let any_words = self.random.percent(ANY_WORDS);
-            self.begin_dump(pair, any_words);
+            let of = if self.random.below(self.imports + self.replays) < self.imports {
+                Of::Dump
+            } else {
+                Of::Day
+            };
+            self.begin_feeding(pair, of, any_words);
             if any_words && self.random.percent(10) {
                 return self.end_stream(pair).map(|_| ());
             }
@@ -119,30 +169,45 @@ impl History<'_> {
         Ok(())
     }
 
-    pub fn begin_dump(&mut self, pair: &mut Pair, any_words: bool) {
-        let dump = random_dumps::dump(&mut self.random, &source(&self.pool, pair));
-        self.feeding = Some(Feeding::begin(&mut self.random, self.library, pair, dump, any_words));
+    pub fn begin_feeding(&mut self, pair: &mut Pair, of: Of, any_words: bool) {
+        let source = source(&self.pool, pair);
+        let recording = match of {
+            Of::Dump => dump(&mut self.random, &source),
+            Of::Day => day(&mut self.random, &source, &mut self.turns.spoils),
+        };
+        self.feeding = Some(Feeding::begin(&mut self.random, self.library, pair, recording, any_words));
+        self.begin_figures(pair);
     }
 
-    /// The next chunk of a dump, now and then with something wrong about it, or the end of its stream.
+    /// Begins counts and tally anew.
+    fn begin_figures(&mut self, pair: &mut Pair) {
+        let counts = figures(&mut self.random, &mut self.turns.counts);
+        let tally = figures(&mut self.random, &mut self.turns.figures);
+        pair.stream.set_counts(self.library, counts);
+        pair.stream.set_tally(self.library, tally);
+    }
+
+    /// The next chunk, now and then with something wrong about it, or the end of the stream.
     fn chunk_or_end(&mut self, pair: &mut Pair, damaged: bool) -> Result<(), Failure> {
-        let Some(feeding) = &mut self.feeding else {
+        if counted_full(&pair.stream) && self.random.percent(25) || self.random.percent(1) {
+            self.begin_figures(pair);
+        }
+        let Some(feeding) = &self.feeding else {
             return Ok(());
         };
-        if counted_full(&pair.stream) && self.random.percent(40) || self.random.percent(1) {
-            pair.stream.set_counts(self.library, random_dumps::counts(&mut self.random));
-        }
         if self.random.percent(if feeding.done() { 50 } else { 1 }) {
             return self.end_stream(pair).map(|_| ());
         }
-        let long = self.random.percent(2);
-        let chunk = match long {
+        let bytes = match self.random.percent(2) {
             true => feeding.long_chunk(&mut self.random),
             false => feeding.chunk(&mut self.random),
         };
-        let (size, spoilt) = (chunk.len(), feeding.spoilt());
-        let import = self.import(pair, chunk);
-        let right = pair.lent(&import);
+        let of = match (feeding.of(), self.random.percent(MIXED)) {
+            (Of::Dump, false) | (Of::Day, true) => Of::Dump,
+            _ => Of::Day,
+        };
+        let chunk = self.chunk(pair, of, bytes);
+        let right = pair.lent(&chunk);
         let (mut t, mut lent) = (self.t, right);
         if self.random.percent(5) {
             for _ in 0..self.random.within(1, 3) {
@@ -151,22 +216,28 @@ impl History<'_> {
         } else if damaged && self.random.percent(3) {
             t = self.other_settings();
         }
-        let refusal = self.call_with(pair, &t, lent, &import)? >> 48;
-        if let (0, 12 | 14, Some(spoil)) = (import.words[0], refusal, spoilt) {
-            self.tally.imports.count_spoilt(spoil);
-        }
-        // A chunk that was not looked at comes again.
-        let looked_at = import.words[0] != 0 || !matches!(refusal, 1 | 2 | 19);
-        if let (Some(feeding), true, false) = (&mut self.feeding, looked_at, long) {
-            feeding.went(size);
-        }
-        Ok(())
+        self.take(pair, &t, lent, &chunk)
     }
 
-    /// A chunk of the dump under way.
-    pub fn import(&mut self, pair: &Pair, chunk: Vec<u8>) -> Import {
-        let hops = self.feeding.as_ref().map_or([].into(), Feeding::hops);
-        pair.stream.import(chunk, self.random.below(4), hops, self.random.below(4))
+    /// A chunk of what is fed, for calls of this kind.
+    pub fn chunk(&mut self, pair: &Pair, of: Of, bytes: Vec<u8>) -> Chunk {
+        let hops: Rc<[u32]> = self.feeding.as_ref().map_or([].into(), |fed| fed.recording.hops.clone());
+        pair.stream.chunk(of, bytes, self.random.below(4), hops, self.random.below(4))
+    }
+
+    /// Takes a chunk of what is fed, and counts what it has met.
+    pub fn take(&mut self, pair: &mut Pair, t: &Settings, lent: Lent, chunk: &Chunk) -> Result<(), Failure> {
+        let number = self.call_with(pair, t, lent, chunk)? >> 48;
+        let ended = chunk.words[0] != 0;
+        // A chunk that was not looked at comes again.
+        let Some(feeding) = self.feeding.as_mut().filter(|_| ended || !matches!(number, 1 | 2 | 19)) else {
+            return Ok(());
+        };
+        feeding.went(chunk.bytes.len());
+        if !ended {
+            feeding.count(self.tally, chunk, number, pair.stream.held());
+        }
+        Ok(())
     }
 
     fn end_stream(&mut self, pair: &mut Pair) -> Result<u64, Failure> {
@@ -175,39 +246,45 @@ impl History<'_> {
         self.call_with(pair, &t, lent, &end)
     }
 
-    /// Feeds a dump that has begun to its table and to another one that is the same, cut in two ways: both end by
-    /// the same number, and both tables and streams are the same then. No count comes near its limit, since only
+    /// Feeds a recording that has begun to its table and to another one that is the same, cut in two ways: both end
+    /// by the same number, and both tables and streams are the same then. No figure comes near its limit, since only
     /// where a chunk begins is it asked.
     fn cut_in_two_ways(&mut self, one: &mut Pair) -> Result<(), Failure> {
-        let counts = one.stream.held().counts.map(|count| count.min(MOST_COUNTED / 2));
+        let Stream { counts, tally, .. } = one.stream.held();
+        let (counts, tally) = (
+            counts.map(|count| count.min(MOST_COUNTED / 2)),
+            tally.map(|figure| figure.min(MOST_COUNTED / 2)),
+        );
         one.stream.set_counts(self.library, counts);
+        one.stream.set_tally(self.library, tally);
         let mut other = one.copy(self.library, Area::New);
         let number = self.feed(one)?;
         self.feeding = self.feeding.take().map(|feeding| feeding.again(&mut self.random));
         let other_number = self.feed(&mut other)?;
-        self.tally.imports.count_two_ways(number);
+        if let Some(feeding) = &self.feeding {
+            self.tally.streams_of(feeding.of()).count_two_ways(number);
+        }
         let differs = if number != other_number {
             format!("the final numbers are {} and {}", number >> 48, other_number >> 48)
         } else if one.memory() != other.memory() {
             "the tables are not the same".to_string()
         } else if one.stream.held() != other.stream.held() {
-            "counts, words or rooms are not the same".to_string()
+            "counts, tallies, words or rooms are not the same".to_string()
         } else {
             return Ok(());
         };
         let end = one.stream.end();
-        let difference = Difference(format!("a dump was cut in two ways, and {differs}"));
+        let difference = Difference(format!("a stream was cut in two ways, and {differs}"));
         Err(self.failure(&self.t, one.lent(&end), &end, difference))
     }
 
-    /// Feeds the rest of a dump, and ends its stream.
+    /// Feeds the rest of a recording, and ends its stream.
     fn feed(&mut self, pair: &mut Pair) -> Result<u64, Failure> {
-        while let Some(feeding) = self.feeding.as_mut().filter(|feeding| !feeding.done()) {
-            let chunk = feeding.chunk(&mut self.random);
-            feeding.went(chunk.len());
-            let import = self.import(pair, chunk);
-            let (t, lent) = (self.t, pair.lent(&import));
-            self.call_with(pair, &t, lent, &import)?;
+        while let Some(feeding) = self.feeding.as_ref().filter(|feeding| !feeding.done()) {
+            let (of, bytes) = (feeding.of(), feeding.chunk(&mut self.random));
+            let chunk = self.chunk(pair, of, bytes);
+            let (t, lent) = (self.t, pair.lent(&chunk));
+            self.take(pair, &t, lent, &chunk)?;
         }
         self.end_stream(pair)
     }

@@ -1,7 +1,7 @@
 //! Random histories. A seed and a number fix a history, so that a failing one can be replayed.
 
-use crate::calls::{AnyCall, Call, Lent, Message, Settings, Sizes};
-use crate::feeding::{ended, Feeding};
+use crate::calls::{AnyCall, Call, Lent, Message, Of, Settings, Sizes};
+use crate::feeding::{ended, Feeding, Turns};
 use crate::library::{Area, Library, MARGIN};
 use crate::other_sizes::{self, Kind, KINDS};
 use crate::pair::{Difference, Pair};
@@ -42,18 +42,24 @@ const MOST_ROUTES: usize = 4000;
 /// So many histories of a hundred bring counters to 15 and keep them there.
 const CROWDED: usize = 12;
 
-/// So many calls of a thousand have a list of addresses, have a message, write a withdrawal, or go on with a dump.
+/// So many calls of a thousand have a list of addresses, have a message, write a withdrawal, or go on with a dump or
+/// with a recorded day.
 const LISTS: usize = 15;
 const MESSAGES: usize = 10;
 const WRITINGS: usize = 5;
-const IMPORTS: usize = 10;
+const IMPORTS: usize = 6;
+const REPLAYS: usize = 6;
 
-/// One history of so many, the first of all among them, has more messages and withdrawals, so many, and one, the
-/// second of all among them, goes on with a dump oftener.
+/// One history of so many, the first of all among them, has more messages and withdrawals, so many; one, the second
+/// of all among them, goes on with a dump oftener, and one, the third, with a day.
 const TALKATIVE: u64 = 8;
 const TALKATIVE_MESSAGES: usize = 500;
 const TALKATIVE_WRITINGS: usize = 100;
-const TALKATIVE_IMPORTS: usize = 600;
+const TALKATIVE_IMPORTS: usize = 450;
+const TALKATIVE_REPLAYS: usize = 450;
+
+/// So many of what comes in turn a talkative history is thought to meet, so that the next one goes on after it.
+const TURNS: usize = 20;
 
 /// So many calls of a history have a list of sizes, or counters, that are others than its table's. Over the
 /// histories each of the calls has each kind of them in turn.
@@ -79,9 +85,11 @@ pub struct History<'a> {
     adds: usize,
     messages: usize,
     writings: usize,
-    imports: usize,
-    /// The dump whose stream the table has, if one has begun.
+    pub imports: usize,
+    pub replays: usize,
+    /// The dump or the day whose stream the table has, if one has begun.
     pub feeding: Option<Feeding>,
+    pub turns: Turns,
     /// Which of the calls with other sizes is next.
     other_sizes: usize,
     /// The lengths of which a route was added after the clear, the lowest bit for length 1.
@@ -103,11 +111,13 @@ pub fn run(
     let t = settings(&mut random, crowded, &few);
     let pool = pool(&mut random, crowded, &few);
     let adds = random.pick(&[35, 50, 65, 80]);
-    let (messages, writings, imports) = match history % TALKATIVE {
-        0 => (TALKATIVE_MESSAGES, TALKATIVE_WRITINGS, IMPORTS),
-        1 => (MESSAGES, WRITINGS, TALKATIVE_IMPORTS),
-        _ => (MESSAGES, WRITINGS, IMPORTS),
+    let (messages, writings, imports, replays) = match history % TALKATIVE {
+        0 => (TALKATIVE_MESSAGES, TALKATIVE_WRITINGS, IMPORTS, REPLAYS),
+        1 => (MESSAGES, WRITINGS, TALKATIVE_IMPORTS, 0),
+        2 => (MESSAGES, WRITINGS, 0, TALKATIVE_REPLAYS),
+        _ => (MESSAGES, WRITINGS, IMPORTS, REPLAYS),
     };
+    let turn = (history / TALKATIVE) as usize * TURNS;
     tally.histories += 1;
     let history = History {
         library,
@@ -120,7 +130,9 @@ pub fn run(
         messages,
         writings,
         imports,
+        replays,
         feeding: None,
+        turns: Turns { counts: turn, figures: turn, spoils: turn },
         other_sizes: history as usize % (WITH_SETTINGS * KINDS.len()) * OTHER_SIZES,
         lengths: 0,
         made: 0,
@@ -265,7 +277,7 @@ impl History<'_> {
                 self.other_sizes_calls(&mut pair, damaged)?;
             }
             let chance = self.random.below(1000);
-            if chance < LISTS + self.messages + self.writings + self.imports {
+            if chance < LISTS + self.messages + self.writings + self.imports + self.replays {
                 match chance {
                     0..LISTS => self.list_call(&mut pair, damaged)?,
                     _ if chance < LISTS + self.messages => self.message_call(&mut pair, damaged)?,
@@ -340,7 +352,7 @@ impl History<'_> {
             }
             AnyCall::Message(message) => (None, pair.call_message(self.library, t, lent, message)),
             AnyCall::Writing(writing) => (None, pair.write(self.library, writing)),
-            AnyCall::Import(import) => (None, pair.call_import(self.library, t, lent, import)),
+            AnyCall::Chunk(chunk) => (None, pair.call_chunk(self.library, t, lent, chunk)),
             AnyCall::End(end) => (None, pair.end_stream(self.library, end)),
         };
         let answer = answered.map_err(|difference| self.failure(t, lent, call, difference))?;
@@ -351,12 +363,12 @@ impl History<'_> {
         let counted = self.tally.count(call, kinds, answer);
         counted.map_err(|difference| self.failure(t, lent, call, difference))?;
         match call {
-            AnyCall::Import(import) => {
+            AnyCall::Chunk(chunk) => {
                 let right = pair.lent(call);
                 let wrong = *t != self.t || lent.counters != right.counters || lent.slots != right.slots;
-                self.tally.imports.count(import, wrong, answer, pair.stream.held());
+                self.tally.count_chunk(chunk, wrong, answer, &pair.stream);
             }
-            AnyCall::End(end) => self.tally.imports.count_end(end, answer),
+            AnyCall::End(end) => self.tally.ends.count(end, answer),
             _ => {}
         }
         if let (AnyCall::One(Call::Add { length: length @ 1.., .. }), 0, true) =
@@ -523,11 +535,13 @@ impl History<'_> {
         let (address, hop) = (self.random_address(), self.random.pick(&HOPS));
         let list = random_lists::list(&mut self.random, |_| address);
         let message = random_messages::message(&mut self.random, &source(&self.pool, pair), false);
-        if call == 8 && (self.feeding.is_none() || ended(&pair.stream)) {
-            self.begin_dump(pair, false);
+        let of = if call == 8 { Of::Dump } else { Of::Day };
+        let under_way = self.feeding.as_ref().is_some_and(|feeding| feeding.of() == of);
+        if call >= 8 && (!under_way || ended(&pair.stream)) {
+            self.begin_feeding(pair, of, false);
         }
-        let chunk = self.feeding.as_ref().map_or(Vec::new(), |feeding| feeding.chunk(&mut self.random));
-        let import = self.import(pair, chunk);
+        let bytes = self.feeding.as_ref().map_or(Vec::new(), |feeding| feeding.chunk(&mut self.random));
+        let chunk = self.chunk(pair, of, bytes);
         let call = match call {
             0 => AnyCall::One(Call::Clear),
             1 => AnyCall::One(Call::Add { prefix, length, hop }),
@@ -537,17 +551,14 @@ impl History<'_> {
             5 => AnyCall::One(Call::Lookup { address }),
             6 => AnyCall::List(&list),
             7 => AnyCall::Message(&message),
-            _ => AnyCall::Import(&import),
+            _ => AnyCall::Chunk(&chunk),
         };
         let (mut t, mut lent) = (self.t, pair.lent(call));
         other_sizes::make(&mut self.random, kind, &mut t, &mut lent);
-        let refusal = self.call_with(pair, &t, lent, call)? >> 48;
-        if let (AnyCall::Import(_), Some(feeding), false) =
-            (call, &mut self.feeding, matches!(refusal, 1 | 2 | 19))
-        {
-            feeding.went(import.chunk.len());
+        match call {
+            AnyCall::Chunk(chunk) => self.take(pair, &t, lent, chunk),
+            _ => self.call_with(pair, &t, lent, call).map(|_| ()),
         }
-        Ok(())
     }
 
     /// The message that withdraws a route; what was written is then a message too.

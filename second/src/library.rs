@@ -2,7 +2,7 @@
 //! the same memory, so that what the library writes is seen here, and a call that brings that process
 //! down is told as any other difference.
 
-use crate::calls::{AnyCall, Call, End, Import, Lent, Settings, Sizes, Writing};
+use crate::calls::{AnyCall, Call, Chunk, End, Lent, Of, Settings, Sizes, Writing};
 use crate::record_draft::{HEADER, MOST_BODY};
 use std::fs::{self, File, OpenOptions};
 use std::io::{self, Read, Write};
@@ -45,6 +45,7 @@ pub enum Beside {
     Room,
     Chunk,
     Counts,
+    Tally,
     Words,
     StreamRoom,
 }
@@ -196,16 +197,23 @@ impl Library {
                 let [room, size] = [place(Beside::Room, MARGIN + offset), room.len()].map(|n| n as u64);
                 (8, [u64::from(*prefix), u64::from(*length), room, size])
             }
-            AnyCall::Import(Import { chunk, offset, hops, hops_offset, .. }) => {
-                let bytes = place(Beside::Chunk, MARGIN + offset);
+            AnyCall::Chunk(Chunk { of, bytes, offset, hops, hops_offset, .. }) => {
+                let number = match of {
+                    Of::Dump => 9,
+                    Of::Day => 10,
+                };
+                let chunk = place(Beside::Chunk, MARGIN + offset);
                 let words = place(Beside::Hops, MARGIN + 4 * hops_offset);
-                (9, [bytes, chunk.len(), words, hops.len()].map(|n| n as u64))
+                (number, [chunk, bytes.len(), words, hops.len()].map(|n| n as u64))
             }
-            AnyCall::End(_) => (10, [0; 4]),
+            AnyCall::End(_) => (11, [0; 4]),
         };
         let stream = match call {
-            AnyCall::Import(Import { offsets, .. }) => [
-                place(Beside::Counts, MARGIN + offsets.counts),
+            AnyCall::Chunk(Chunk { of, offsets, .. }) => [
+                match of {
+                    Of::Dump => place(Beside::Counts, MARGIN + offsets.counts),
+                    Of::Day => place(Beside::Tally, MARGIN + offsets.tally),
+                },
                 place(Beside::Words, MARGIN + offsets.words),
                 place(Beside::StreamRoom, MARGIN + offsets.room),
             ],

@@ -15,8 +15,10 @@ mod attributes;
 mod calls;
 mod cuts;
 mod cutting;
+mod day_draft;
 mod draft;
 mod feeding;
+mod framing;
 mod history;
 mod import_tally;
 mod imports;
@@ -30,10 +32,13 @@ mod message_tally;
 mod messages;
 mod other_sizes;
 mod pair;
+mod paper_days;
 mod paper_dumps;
+mod paper_streams;
 mod places;
 mod program;
 mod random;
+mod random_days;
 mod random_dumps;
 mod random_lines;
 mod random_lists;
@@ -42,19 +47,26 @@ mod random_sizes;
 mod reading;
 mod record_draft;
 mod recorded;
+mod recorded_days;
 mod recorded_dumps;
+mod recordings;
 mod records;
 mod replacing;
+mod replay_tally;
+mod replays;
 mod routes;
 mod rules;
 mod slips;
+mod spoilt_days;
 mod spoilt_messages;
 mod spoilt_records;
+mod stream_tally;
 mod streams;
 mod tally;
 mod text;
 mod told;
 mod worked;
+mod worked_days;
 mod worked_imports;
 mod worked_messages;
 mod worked_sizes;
@@ -76,6 +88,7 @@ usage: second [--seed N] [--calls N | --seconds N]   random histories, 500000 ca
        second --slips [--seed N]                     gets one rule wrong at a time: each must be found
        second --recorded FILE                        messages of real daemons, with other programs' readings
        second --recorded-dump FILE                   a dump of a real daemon, with bgpdump's reading beside it
+       second --recorded-day FILE                    a day that a real daemon recorded, with two of its readings
        second --lines [--seed N] [--count N]         random lines to the text program, 6000 unless told
        second --lines --seed N --history M [--show]  one input of them again; --show tells each line
        second --lines --slips [--seed N]             as above, with the rules of the reader of lines
@@ -91,8 +104,8 @@ library; it is the host beside this one unless told.";
 const LINES: u64 = 6000;
 
 /// From so many calls on, a run must have met every refusal, all that adds of stored prefixes can meet, what
-/// messages and dumps can be and have wrong about them, every place where a dump can be cut, and in each call all
-/// that can be other about the filters' sizes.
+/// messages, dumps and recorded days can be and have wrong about them, every place where a stream can be cut, every
+/// figure at its limit, and in each call all that can be other about the filters' sizes.
 const MANY_CALLS: u64 = 100_000;
 
 /// A slip that so many histories do not show is not found.
@@ -115,6 +128,7 @@ struct Options {
     cut: Option<String>,
     recorded: Option<String>,
     recorded_dump: Option<String>,
+    recorded_day: Option<String>,
     host: Option<String>,
     command: Option<Vec<String>>,
 }
@@ -149,6 +163,10 @@ fn options() -> Result<Options, String> {
             }
             "--recorded-dump" => {
                 options.recorded_dump = Some(words.next().ok_or("--recorded-dump needs a file")?);
+                continue;
+            }
+            "--recorded-day" => {
+                options.recorded_day = Some(words.next().ok_or("--recorded-day needs a file")?);
                 continue;
             }
             "--host" => {
@@ -235,6 +253,9 @@ fn compare_calls(seed: u64, options: Options) -> bool {
     }
     if let Some(file) = options.recorded_dump {
         return recorded_went(recorded_dumps::compare(&mut library, &file));
+    }
+    if let Some(file) = options.recorded_day {
+        return recorded_went(recorded_days::compare(&mut library, &file));
     }
     match (options.slips, options.history) {
         (true, _) => find_slips(&mut library, seed),

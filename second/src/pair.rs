@@ -5,6 +5,7 @@ use crate::calls::{AnyCall, Call, Lent, List, Message, Settings, Writing};
 use crate::library::{Area, Beside, Library, Offsets, MARGIN};
 use crate::lists::answer_list;
 use crate::messages::{read, read_message, write_withdrawal, Said};
+use crate::paper_days::single_calls;
 use crate::places::{bytes_of, places, Place};
 use crate::routes::Routes;
 use crate::rules::{self, counter_bytes, slot_words};
@@ -24,7 +25,7 @@ pub struct Pair {
     sizes_offset: usize,
     /// The stored routes, where the history began with a clear.
     pub routes: Option<Routes>,
-    /// What the imports into this table are lent beside it.
+    /// What the imports into this table and the replays over it are lent beside it.
     pub stream: StreamPair,
     pub slip: Option<Slip>,
 }
@@ -62,7 +63,7 @@ impl Pair {
         Pair { t, area, counters, slots, sizes_offset: 0, routes: None, stream, slip }
     }
 
-    /// Another table that holds the same, and so does what its imports are lent.
+    /// Another table that holds the same, and so does what its imports and replays are lent.
     pub fn copy(&self, library: &mut Library, area: Area) -> Pair {
         library.counters(area, self.counters.len()).copy_from_slice(&self.counters);
         library.slots(area, self.slots.len()).copy_from_slice(&self.slots);
@@ -313,7 +314,8 @@ impl Pair {
         let Some(routes) = self.routes.as_mut().filter(|_| theirs >> 48 == 0) else {
             return Ok(());
         };
-        let Some(calls) = single_calls(message) else {
+        let said = read(&message.bytes).ok();
+        let Some(calls) = said.and_then(|said| single_calls(said, &message.hops)) else {
             return Err(Difference("a message is accepted that cannot be read".to_string()));
         };
         let all = calls.len();
@@ -369,18 +371,6 @@ impl Pair {
         }
         Ok(())
     }
-}
-
-/// The single updates that a good message stands for, in their order.
-fn single_calls(message: &Message) -> Option<Vec<Call>> {
-    let said = read(&message.bytes).ok()?;
-    let withdraw = |(prefix, length): (u32, u32)| Call::Withdraw { prefix, length };
-    let mut calls: Vec<Call> = said.withdrawn.into_iter().map(withdraw).collect();
-    if !said.announced.is_empty() {
-        let hop = message.hops.iter().position(|hop| Some(*hop) == said.next_hop)? as u32;
-        calls.extend(said.announced.into_iter().map(|(prefix, length)| Call::Add { prefix, length, hop }));
-    }
-    Some(calls)
 }
 
 /// Bytes with margins whose content no call writes: a word of the results has zeros in its high bytes.

@@ -71,7 +71,7 @@ pub fn message(random: &mut Random, source: &Source, spoilt: bool) -> Message {
 }
 
 /// A good message, whose NEXT_HOP is this one, if it has any.
-fn draft(random: &mut Random, source: &Source, hop: u32) -> Draft {
+pub fn draft(random: &mut Random, source: &Source, hop: u32) -> Draft {
     let [withdrawn, announced] = [(); 2].map(|_| match random.below(100) {
         0..=29 => 0,
         30..=54 => 1,

@@ -5,7 +5,7 @@ use crate::random::Random;
 /// The bytes of a record's header.
 pub const HEADER: usize = 12;
 
-/// Type and subtype of the records that are read, and the most bytes that their bodies have.
+/// Type and subtype of the records of a dump that are read, and the most bytes that bodies have which are read.
 pub const READ: (u16, u16) = (13, 2);
 pub const MOST_BODY: usize = 65_536;
 

@@ -1,11 +1,11 @@
 //! Dumps that real daemons wrote, each with what bgpdump reads in it: they are imported here in many cuttings, and
 //! their routes must be those that bgpdump tells.
 
-use crate::calls::Call;
+use crate::calls::{Call, Of};
 use crate::imports::read_body;
 use crate::library::{Area, Library};
 use crate::pair::{Difference, Pair};
-use crate::paper_dumps::{first_record, is_read};
+use crate::paper_streams::{first_record, is_read};
 use crate::record_draft::HEADER;
 use crate::recorded::{address, prefix, TABLE};
 use crate::routes::Routes;
@@ -60,12 +60,17 @@ pub fn compare(library: &mut Library, file: &str) -> Result<String, String> {
         "{} bytes of {}: {accepted} routes accepted; by a third of the next hops {some_accepted}, and {none} records \
          without a hop",
         recorded.bytes.len(),
-        Path::new(file).file_name().map_or(String::new(), |name| name.to_string_lossy().into_owned())
+        name(file)
     ))
 }
 
+/// The name of a file, without the directories that it is in.
+pub fn name(file: &str) -> String {
+    Path::new(file).file_name().map_or(String::new(), |name| name.to_string_lossy().into_owned())
+}
+
 /// How many bytes there are from a place to the next start of a record.
-fn next(starts: &[usize], at: usize) -> usize {
+pub fn next(starts: &[usize], at: usize) -> usize {
     starts.iter().find(|start| **start > at).map_or(1, |start| start - at)
 }
 
@@ -75,7 +80,7 @@ fn compare_reading(recorded: &Recorded) -> Result<Vec<usize>, String> {
     let mut starts = vec![0];
     let mut rest = &recorded.bytes[..];
     while let Some((record, next)) = first_record(rest) {
-        if is_read(record) {
+        if is_read(Of::Dump, record) {
             let said = read_body(&record[HEADER..]).map_err(|()| "a record is not read".to_string())?;
             let said = Told { prefix: said.prefix, length: said.length, next_hops: said.next_hops };
             match told.next() {
@@ -93,8 +98,8 @@ fn compare_reading(recorded: &Recorded) -> Result<Vec<usize>, String> {
 }
 
 /// A cleared table.
-fn cleared(library: &mut Library) -> Result<Pair, Difference> {
-    let mut pair = Pair::new(library, Area::Old, TABLE, None, || 7, || 7);
+pub fn cleared(library: &mut Library, area: Area) -> Result<Pair, Difference> {
+    let mut pair = Pair::new(library, area, TABLE, None, || 7, || 7);
     let lent = pair.lent(Call::Clear);
     pair.call(library, &TABLE, lent, Call::Clear)?;
     pair.routes = Some(Routes::new(TABLE, None));
@@ -109,7 +114,7 @@ fn import(
     hops: &[u32],
     size: &dyn Fn(usize) -> usize,
 ) -> Result<[u32; 3], String> {
-    let fed = cleared(library).and_then(|mut pair| {
+    let fed = cleared(library, Area::Old).and_then(|mut pair| {
         let mut at = 0;
         while at < recorded.bytes.len() {
             let chunk = size(at).min(recorded.bytes.len() - at);
@@ -133,7 +138,7 @@ fn cut_in_two(
     between: bool,
 ) -> Result<(), String> {
     let (first, second) = recorded.bytes.split_at(at);
-    let fed = cleared(library).and_then(|mut pair| {
+    let fed = cleared(library, Area::Old).and_then(|mut pair| {
         feed(library, &mut pair, first, hops)?;
         let mut ended = pair.copy(library, Area::New);
         end(library, &mut ended, if between { 0 } else { 17 })?;
@@ -146,17 +151,17 @@ fn cut_in_two(
 }
 
 fn feed(library: &mut Library, pair: &mut Pair, chunk: &[u8], hops: &[u32]) -> Result<(), Difference> {
-    let import = pair.stream.import(chunk.to_vec(), 1, Rc::from(hops), 0);
-    let lent = pair.lent(&import);
-    given(pair.call_import(library, &TABLE, lent, &import)?, 0)
+    let chunk = pair.stream.chunk(Of::Dump, chunk.to_vec(), 1, Rc::from(hops), 0);
+    let lent = pair.lent(&chunk);
+    given(pair.call_chunk(library, &TABLE, lent, &chunk)?, 0)
 }
 
-fn end(library: &mut Library, pair: &mut Pair, number: u64) -> Result<(), Difference> {
+pub fn end(library: &mut Library, pair: &mut Pair, number: u64) -> Result<(), Difference> {
     let end = pair.stream.end();
     given(pair.end_stream(library, &end)?, number)
 }
 
-fn given(answer: u64, number: u64) -> Result<(), Difference> {
+pub fn given(answer: u64, number: u64) -> Result<(), Difference> {
     if answer == number << 48 {
         return Ok(());
     }

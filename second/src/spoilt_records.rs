@@ -1,4 +1,4 @@
-//! What can be wrong about a record that is read.
+//! What can be wrong about a record of a dump that is read.
 
 use crate::draft::{next_hop, EXTENDED};
 use crate::random::Random;
@@ -16,6 +16,7 @@ macro_rules! spoils {
         pub const SPOILS: [(Spoil, &str); [$($text),*].len()] = [$((Spoil::$name, $text)),*];
     };
 }
+pub(crate) use spoils;
 
 spoils! {
     NoBytes: "the body has no bytes",
@@ -154,6 +155,6 @@ fn spoil_bytes(random: &mut Random, spoil: Spoil, body: &Body, bytes: &mut Vec<u
 }
 
 /// Puts a number of two bytes.
-fn put_number(bytes: &mut [u8], at: usize, number: usize) {
+pub fn put_number(bytes: &mut [u8], at: usize, number: usize) {
     bytes[at..at + 2].copy_from_slice(&(number as u16).to_be_bytes());
 }

@@ -1,20 +1,23 @@
-//! One stream twice, as a table is: what the imports into a table are lent beside it, in the library's memory and
-//! in this program's own. Each chunk is taken in both, and answers and memory are compared after it.
+//! One stream twice, as a table is: what imports into a table and replays over it are lent beside it, in the library's
+//! memory and in this program's own. Each chunk is taken in both, and answers and memory are compared after it.
 
-use crate::calls::{AnyCall, End, Import, Lent, Settings, Stream, StreamOffsets};
+use crate::calls::{AnyCall, Chunk, End, Lent, Of, Settings, Stream, StreamOffsets, FIGURES};
 use crate::imports::{end_stream, import_chunk};
 use crate::library::{Area, Beside, Library, MARGIN, ROOM, STREAM};
 use crate::pair::{compare_lent, same, with_margins, Difference, Pair};
-use crate::paper_dumps::PaperDump;
+use crate::paper_streams::PaperStream;
 use crate::places::bytes_of;
+use crate::replays::replay_chunk;
 use crate::told::Answer;
 use std::rc::Rc;
 
 pub struct StreamPair {
     own: Stream,
     offsets: StreamOffsets,
-    /// What has come of the dump, where the table's stored routes are known.
-    paper: Option<PaperDump>,
+    /// What has come of the stream, where the table's stored routes are known.
+    paper: Option<PaperStream>,
+    /// How many stored routes the last chunk has announced again, where that is known.
+    pub replaced: u32,
 }
 
 /// Where the stream of an area lies, by a number that moves each part by other words or bytes.
@@ -22,6 +25,7 @@ fn offsets(area: Area, moved: usize) -> StreamOffsets {
     let start = area as usize * STREAM;
     StreamOffsets {
         counts: start + 4 * (moved % 4),
+        tally: start + 4 * (moved / 2 % 4),
         words: start + 4 * (moved / 4 % 4),
         room: start + moved / 16 % 4,
     }
@@ -30,34 +34,34 @@ fn offsets(area: Area, moved: usize) -> StreamOffsets {
 impl StreamPair {
     /// A stream that begins, with room that holds something.
     pub fn new(library: &mut Library, area: Area) -> StreamPair {
-        let own = Stream { counts: [0; 3], words: [0; 3], room: vec![7; ROOM] };
-        let paper = Some(PaperDump::of(own.words, &own.room));
-        let stream = StreamPair { own, offsets: offsets(area, 0), paper };
+        let own = Stream { counts: [0; 3], tally: [0; FIGURES], words: [0; 3], room: vec![7; ROOM] };
+        let paper = Some(PaperStream::of(own.words, &own.room));
+        let stream = StreamPair { own, offsets: offsets(area, 0), paper, replaced: 0 };
         stream.write(library);
         stream
     }
 
     /// A stream of another area that holds the same.
     pub fn copy(&self, library: &mut Library, area: Area) -> StreamPair {
-        let stream =
-            StreamPair { own: self.own.clone(), offsets: offsets(area, 0), paper: self.paper.clone() };
+        let (own, paper) = (self.own.clone(), self.paper.clone());
+        let stream = StreamPair { own, offsets: offsets(area, 0), paper, replaced: 0 };
         stream.write(library);
         stream
     }
 
-    /// Begins a stream whose counts and words are these, at another place. Room that is not given stays.
+    /// Begins a stream whose words are these, at another place. Room that is not given stays, and so do counts and
+    /// tally.
     pub fn begin(
         &mut self,
         library: &mut Library,
         area: Area,
         moved: usize,
-        counts: [u32; 3],
         words: [u32; 3],
         room: Option<Vec<u8>>,
     ) {
         let room = room.unwrap_or_else(|| std::mem::take(&mut self.own.room));
-        self.paper = Some(PaperDump::of(words, &room));
-        self.own = Stream { counts, words, room };
+        self.paper = Some(PaperStream::of(words, &room));
+        (self.own.words, self.own.room) = (words, room);
         self.offsets = offsets(area, moved);
         self.write(library);
     }
@@ -68,16 +72,23 @@ impl StreamPair {
         put(library, Beside::Counts, self.offsets.counts, &bytes_of(&counts));
     }
 
+    /// The same of the tally.
+    pub fn set_tally(&mut self, library: &mut Library, tally: [u32; FIGURES]) {
+        self.own.tally = tally;
+        put(library, Beside::Tally, self.offsets.tally, &bytes_of(&tally));
+    }
+
     /// What the stream holds; it is the same in both memories after a call.
     pub fn held(&self) -> &Stream {
         &self.own
     }
 
     /// A chunk of this stream, and its end.
-    pub fn import(&self, chunk: Vec<u8>, offset: usize, hops: Rc<[u32]>, hops_offset: usize) -> Import {
-        let (Stream { counts, words, room }, offsets) = (&self.own, self.offsets);
+    pub fn chunk(&self, of: Of, bytes: Vec<u8>, offset: usize, hops: Rc<[u32]>, hops_offset: usize) -> Chunk {
+        let (Stream { counts, tally, words, room }, offsets) = (&self.own, self.offsets);
+        let (counts, tally, words) = (*counts, *tally, *words);
         let header = room[..12].try_into().expect("a room holds a header");
-        Import { chunk, offset, hops, hops_offset, counts: *counts, words: *words, header, offsets }
+        Chunk { of, bytes, offset, hops, hops_offset, counts, tally, words, header, offsets }
     }
 
     pub fn end(&self) -> End {
@@ -85,15 +96,17 @@ impl StreamPair {
     }
 
     fn write(&self, library: &mut Library) {
-        let StreamOffsets { counts, words, room } = self.offsets;
+        let StreamOffsets { counts, tally, words, room } = self.offsets;
         put(library, Beside::Counts, counts, &bytes_of(&self.own.counts));
+        put(library, Beside::Tally, tally, &bytes_of(&self.own.tally));
         put(library, Beside::Words, words, &bytes_of(&self.own.words));
         put(library, Beside::StreamRoom, room, &self.own.room);
     }
 
     fn compare(&self, library: &mut Library) -> Result<(), Difference> {
-        let StreamOffsets { counts, words, room } = self.offsets;
+        let StreamOffsets { counts, tally, words, room } = self.offsets;
         compare(library, "byte of the counts", Beside::Counts, counts, &bytes_of(&self.own.counts))?;
+        compare(library, "byte of the tally", Beside::Tally, tally, &bytes_of(&self.own.tally))?;
         compare(library, "byte of the words", Beside::Words, words, &bytes_of(&self.own.words))?;
         compare(library, "byte of the stream's room", Beside::StreamRoom, room, &self.own.room)
     }
@@ -123,28 +136,45 @@ fn compare(
 }
 
 impl Pair {
-    /// Takes a chunk of a dump in both and compares. The settings and what is lent may be wrong.
-    pub fn call_import(
+    /// Takes a chunk in both and compares. The settings and what is lent may be wrong.
+    pub fn call_chunk(
         &mut self,
         library: &mut Library,
         t: &Settings,
         lent: Lent,
-        import: &Import,
+        chunk: &Chunk,
     ) -> Result<u64, Difference> {
-        let (hops, hops_offset) = (bytes_of(&import.hops), 4 * import.hops_offset);
-        put(library, Beside::Chunk, import.offset, &import.chunk);
+        let (hops, hops_offset) = (bytes_of(&chunk.hops), 4 * chunk.hops_offset);
+        put(library, Beside::Chunk, chunk.offset, &chunk.bytes);
         put(library, Beside::Hops, hops_offset, &hops);
-        let theirs = self.call_library(library, self.area, 0, t, lent, import)?;
+        let theirs = self.call_library(library, self.area, 0, t, lent, chunk)?;
         let (counters, slots) = (&mut self.counters[MARGIN..], &mut self.slots[MARGIN..]);
-        let (stream, chunk) = (&mut self.stream.own, &import.chunk);
-        let ours = import_chunk(t, counters, slots, lent, &import.hops, stream, chunk, self.slip);
-        same("answer", Answer::to(import, theirs), Answer::to(import, ours))?;
-        compare(library, "byte of the chunk", Beside::Chunk, import.offset, chunk)?;
+        let (stream, bytes) = (&mut self.stream.own, &chunk.bytes);
+        let ours = match chunk.of {
+            Of::Dump => import_chunk(t, counters, slots, lent, &chunk.hops, stream, bytes, self.slip),
+            Of::Day => replay_chunk(t, counters, slots, lent, &chunk.hops, stream, bytes, self.slip),
+        };
+        same("answer", Answer::to(chunk, theirs), Answer::to(chunk, ours))?;
+        compare(library, "byte of the chunk", Beside::Chunk, chunk.offset, bytes)?;
         compare(library, "next hop byte", Beside::Hops, hops_offset, &hops)?;
+        self.compare_figures(library, chunk)?;
         self.stream.compare(library)?;
         self.compare_memory(library)?;
-        self.compare_records(import, theirs)?;
+        self.compare_records(chunk, theirs)?;
         Ok(theirs)
+    }
+
+    /// Compares the figures of a replay one by one, so that a difference can be told by its name.
+    fn compare_figures(&self, library: &mut Library, chunk: &Chunk) -> Result<(), Difference> {
+        if chunk.of == Of::Dump {
+            return Ok(());
+        }
+        let ours = self.stream.own.tally;
+        let lent = &*library.beside(Beside::Tally, MARGIN + chunk.offsets.tally, 4 * FIGURES);
+        for (which, (theirs, ours)) in lent.chunks_exact(4).zip(ours).enumerate() {
+            same(&figure(which), u32::from_le_bytes([theirs[0], theirs[1], theirs[2], theirs[3]]), ours)?;
+        }
+        Ok(())
     }
 
     /// Ends the stream in both and compares.
@@ -161,8 +191,9 @@ impl Pair {
         Ok(theirs)
     }
 
-    /// Holds a chunk to the list of stored routes, in which each record with a hop is a single add.
-    fn compare_records(&mut self, import: &Import, theirs: u64) -> Result<(), Difference> {
+    /// Holds a chunk to the list of stored routes, in which each route of its records is a single update.
+    fn compare_records(&mut self, chunk: &Chunk, theirs: u64) -> Result<(), Difference> {
+        self.stream.replaced = 0;
         let (Some(routes), Some(paper)) = (&mut self.routes, &mut self.stream.paper) else {
             self.stream.paper = None;
             return Ok(());
@@ -171,19 +202,39 @@ impl Pair {
         if !paper.ended() && matches!(refusal, 1 | 2 | 19) {
             return Ok(());
         }
-        let (listed, more) = paper.take(routes, &import.hops, &import.chunk);
-        on_paper(import, theirs, listed)?;
+        let (listed, more) = paper.take(chunk.of, routes, &chunk.hops, &chunk.bytes);
+        on_paper(chunk, theirs, listed)?;
+        self.stream.replaced = more.replaced;
+        let held = self.stream.held();
         for (which, name) in ["routes accepted", "routes refused", "records without a hop"].iter().enumerate()
         {
-            let counted = self.stream.own.counts[which].wrapping_sub(import.counts[which]);
-            same(&format!("{name}, held to the list of stored routes"), counted, more[which])?;
+            let counted = held.counts[which].wrapping_sub(chunk.counts[which]);
+            same(&format!("{name}, held to the list of stored routes"), counted, more.counts[which])?;
+        }
+        for which in 0..FIGURES {
+            let counted = held.tally[which].wrapping_sub(chunk.tally[which]);
+            same(
+                &format!("{}, held to the list of stored routes", figure(which)),
+                counted,
+                more.tally[which],
+            )?;
         }
         Ok(())
+    }
+}
+
+/// The name of a figure of a tally.
+pub fn figure(which: usize) -> String {
+    match which {
+        0 => "records seen".to_string(),
+        1 => "UPDATEs applied".to_string(),
+        2 => "routes accepted".to_string(),
+        _ => format!("routes refused as {}", which - 3),
     }
 }
 
 fn on_paper<'a>(call: impl Into<AnyCall<'a>>, theirs: u64, listed: u64) -> Result<(), Difference> {
     let call = call.into();
     let (theirs, listed) = (Answer::to(call, theirs), Answer::to(call, listed));
-    same("answer, held to the dump on paper", theirs, listed)
+    same("answer, held to the stream on paper", theirs, listed)
 }

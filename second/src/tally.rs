@@ -1,14 +1,19 @@
 //! What a run has seen. A run that never met a refusal or a kind of answer has compared nothing there.
 
-use crate::calls::{AnyCall, Call, Sizes};
+use crate::calls::{AnyCall, Call, Chunk, Of, Sizes};
 use crate::import_tally::ImportTally;
 use crate::message_tally::MessageTally;
 use crate::other_sizes::KINDS;
 use crate::pair::Difference;
+use crate::paper_streams::is_read;
+use crate::record_draft::HEADER;
 use crate::replacing::{MEETS, MEETS_UNDAMAGED};
+use crate::replay_tally::ReplayTally;
+use crate::stream_tally::{add, each, never, EndTally, StreamTally};
+use crate::streams::StreamPair;
 use std::fmt;
 
-const CALLS: [&str; 11] = [
+const CALLS: [&str; 12] = [
     "clear",
     "add",
     "withdraw",
@@ -18,6 +23,7 @@ const CALLS: [&str; 11] = [
     "list",
     "message",
     "import",
+    "replay",
     "written withdrawal",
     "end of a stream",
 ];
@@ -33,12 +39,13 @@ const GIVES: [&[usize]; CALLS.len()] = [
     &[0, 1, 2, 18],
     &[0, 1, 2, 12, 13],
     &[0, 1, 2, 12, 14, 19],
+    &[0, 1, 2, 12, 14, 19],
     &[0, 3, 4, 18],
     &[0, 17],
 ];
 
 /// So many of the calls, the first, have settings.
-pub const WITH_SETTINGS: usize = 9;
+pub const WITH_SETTINGS: usize = 10;
 
 /// Room for every refusal that a call can give.
 const REFUSALS: usize = 20;
@@ -46,6 +53,17 @@ const REFUSALS: usize = 20;
 /// Where adds of stored prefixes are counted apart, and how much of what they can meet is met there.
 const REPLACING: [(&str, usize); 2] =
     [("after a clear", MEETS_UNDAMAGED), ("over damaged memory", MEETS.len())];
+
+/// Where a chunk can be taken by the calls of the other kind than the one before it: imports after replays, and then
+/// replays after imports.
+const MIXED: [&str; 6] = [
+    "import went on in a header",
+    "import went on in a body that a replay read",
+    "import went on in a body that a replay stepped over",
+    "replay went on in a header",
+    "replay went on in a body that an import read",
+    "replay went on in a body that an import stepped over",
+];
 
 #[derive(Default)]
 pub struct Tally {
@@ -65,6 +83,9 @@ pub struct Tally {
     met: [[u64; MEETS.len()]; REPLACING.len()],
     messages: MessageTally,
     pub imports: ImportTally,
+    pub replays: ReplayTally,
+    pub ends: EndTally,
+    mixed: [u64; MIXED.len()],
     /// Calls to streams that have ended, which give again the number that ended them, any number.
     again: u64,
     /// Calls with other sizes than their table's.
@@ -94,12 +115,13 @@ impl Tally {
             AnyCall::One(Call::Lookup { .. }) => 5,
             AnyCall::List(_) => 6,
             AnyCall::Message(_) => 7,
-            AnyCall::Import(_) => 8,
-            AnyCall::Writing(_) => 9,
-            AnyCall::End(_) => 10,
+            AnyCall::Chunk(Chunk { of: Of::Dump, .. }) => 8,
+            AnyCall::Chunk(Chunk { of: Of::Day, .. }) => 9,
+            AnyCall::Writing(_) => 10,
+            AnyCall::End(_) => 11,
         };
         let ended = match call {
-            AnyCall::Import(import) => import.words[0] != 0,
+            AnyCall::Chunk(chunk) => chunk.words[0] != 0,
             AnyCall::End(end) => end.words[0] != 0,
             _ => false,
         };
@@ -124,6 +146,35 @@ impl Tally {
             _ => {}
         }
         Ok(())
+    }
+
+    /// Counts a chunk after which its stream is this one; settings or sizes may be wrong.
+    pub fn count_chunk(&mut self, chunk: &Chunk, wrong: bool, answer: u64, after: &StreamPair) {
+        match chunk.of {
+            Of::Dump => self.imports.count(chunk, wrong, answer, after.held()),
+            Of::Day => self.replays.count(chunk, wrong, answer, after.held(), after.replaced),
+        }
+    }
+
+    /// Counts a chunk that calls of the other kind take than the one before it.
+    pub fn count_mixed(&mut self, chunk: &Chunk) {
+        let [_, kept, to_come] = chunk.words;
+        let before = match chunk.of {
+            Of::Dump => Of::Day,
+            Of::Day => Of::Dump,
+        };
+        let read = kept >= HEADER as u32 && is_read(before, &chunk.header);
+        let met = [kept > 0 && to_come == 0, to_come > 0 && read, to_come > 0 && kept == 0];
+        let row = if chunk.of == Of::Dump { 0 } else { met.len() };
+        add(&mut self.mixed[row..], &met);
+    }
+
+    /// What was seen of the streams of imports or of replays.
+    pub fn streams_of(&mut self, of: Of) -> &mut StreamTally {
+        match of {
+            Of::Dump => &mut self.imports.streams,
+            Of::Day => &mut self.replays.streams,
+        }
     }
 
     /// Counts an accepted add of a stored prefix.
@@ -197,7 +248,12 @@ impl Tally {
                 return Some(format!("no {} had {}", CALLS[row], KINDS[missed]));
             }
         }
-        self.messages.missing().or_else(|| self.imports.missing())
+        if let Some(missed) = never(&self.mixed, &MIXED) {
+            return Some(format!("no {missed}"));
+        }
+        let streams =
+            || self.imports.missing().or_else(|| self.replays.missing()).or_else(|| self.ends.missing());
+        self.messages.missing().or_else(streams)
     }
 }
 
@@ -247,6 +303,7 @@ impl fmt::Display for Tally {
             let times: u64 = self.other_sizes.iter().map(|row| row[number]).sum();
             write!(f, "{} {kind}: {times}", if number == 0 { "" } else { "," })?;
         }
-        write!(f, "\n{}\n{}", self.messages, self.imports)
+        write!(f, "\n{}\n{}\n{}\n{}", self.messages, self.imports, self.replays, self.ends)?;
+        write!(f, "\n  streams that went on by the other calls: {}", each(MIXED, &self.mixed))
     }
 }

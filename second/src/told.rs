@@ -1,6 +1,6 @@
 //! Calls and their answers in words.
 
-use crate::calls::{AnyCall, Call, End, Import, Lent, List, Message, Settings, Sizes, Writing};
+use crate::calls::{AnyCall, Call, Chunk, End, Lent, List, Message, Of, Settings, Sizes, Writing};
 use std::fmt;
 
 /// A call in words.
@@ -12,7 +12,7 @@ pub fn told<'a>(t: &Settings, lent: Lent, call: impl Into<AnyCall<'a>>) -> Strin
         AnyCall::List(list) => told_list(list),
         AnyCall::Message(message) => told_message(message),
         AnyCall::Writing(writing) => return told_writing(writing),
-        AnyCall::Import(import) => told_import(import),
+        AnyCall::Chunk(chunk) => told_chunk(chunk),
         AnyCall::End(End { words, .. }) => return format!("end of a stream with the words {words:?}"),
     };
     let unit = if call.units() == 4 { "bytes" } else { "words" };
@@ -74,15 +74,18 @@ fn told_message(message: &Message) -> String {
     format!("message of {}, {}", told_bytes(bytes, *offset), told_hops(hops, *hops_offset))
 }
 
-fn told_import(import: &Import) -> String {
-    let Import { chunk, offset, hops, hops_offset, counts, words, header, offsets } = import;
+fn told_chunk(chunk: &Chunk) -> String {
+    let Chunk { of, bytes, offset, hops, hops_offset, counts, tally, words, header, offsets } = chunk;
+    let (call, counted, counted_at) = match of {
+        Of::Dump => ("import", format!("counts {counts:?}"), offsets.counts),
+        Of::Day => ("replay", format!("tally {tally:?}"), offsets.tally),
+    };
     let header: String = header.iter().map(|byte| format!("{byte:02x}")).collect();
     format!(
-        "import of a chunk of {}, {}; counts {counts:?}, words {words:?}, room that begins with {header}, these \
-         {}, {} and {} past their places",
-        told_bytes(chunk, *offset),
+        "{call} of a chunk of {}, {}; {counted}, words {words:?}, room that begins with {header}, these \
+         {counted_at}, {} and {} past their places",
+        told_bytes(bytes, *offset),
         told_hops(hops, *hops_offset),
-        offsets.counts,
         offsets.words,
         offsets.room
     )

@@ -8,7 +8,7 @@ use crate::places::{bytes_of, places};
 use crate::routes::Routes;
 use crate::rules::{bucket, counter_at, first_slot, positions, walk_agrees, T};
 use crate::told::{told, Answer};
-use crate::{worked_imports, worked_messages, worked_sizes};
+use crate::{worked_days, worked_imports, worked_messages, worked_sizes};
 
 pub fn address(a: u8, b: u8, c: u8, d: u8) -> u32 {
     u32::from_be_bytes([a, b, c, d])
@@ -233,7 +233,8 @@ pub fn run(library: &mut Library) -> Result<(), String> {
     downwards(library)?;
     worked_sizes::run(library)?;
     worked_messages::run(library)?;
-    worked_imports::run(library)
+    worked_imports::run(library)?;
+    worked_days::run(library)
 }
 
 /// Stored prefixes that are added again.

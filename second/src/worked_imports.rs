@@ -1,13 +1,13 @@
 //! Dumps with the answers, counts, words and rooms that follow from their bytes, worked out by hand.
 
-use crate::calls::{Lent, Settings, Stream};
+use crate::calls::{Lent, Of, Settings, Stream};
 use crate::library::{Library, ROOM};
 use crate::rules::T;
 use crate::worked::{address, found, one_off, refused, Case};
 use std::rc::Rc;
 
 /// A route to 10.0.0.0/8 of which two neighbours tell, with NEXT_HOP 10.9.9.9 and 10.9.9.1.
-const RECORD: [u8; 50] = [
+pub const RECORD: [u8; 50] = [
     0x6a, 0x00, 0x00, 0x00, // a time
     0x00, 0x0d, 0x00, 0x02, // type 13, subtype 2
     0x00, 0x00, 0x00, 0x26, // 38 bytes
@@ -49,7 +49,8 @@ fn of_body(body: &[u8]) -> Vec<u8> {
 impl Case<'_> {
     /// Begins a stream, in room whose bytes are 7.
     fn begin(&mut self, counts: [u32; 3], words: [u32; 3]) {
-        self.pair.stream.begin(self.library, self.pair.area, 0, counts, words, Some(vec![7; ROOM]));
+        self.pair.stream.begin(self.library, self.pair.area, 0, words, Some(vec![7; ROOM]));
+        self.pair.stream.set_counts(self.library, counts);
     }
 
     fn import_with(
@@ -60,15 +61,21 @@ impl Case<'_> {
         hops: &[u32],
         number: u64,
     ) -> Result<(), String> {
-        let import = self.pair.stream.import(chunk.to_vec(), 0, Rc::from(hops), 0);
-        let lent = lent.unwrap_or(self.pair.lent(&import));
-        let given = self.pair.call_import(self.library, t, lent, &import);
-        let given = given.map_err(|difference| self.wrong(lent, &import, difference.0))?;
-        self.documented(lent, &import, given, refused(number))
+        let chunk = self.pair.stream.chunk(Of::Dump, chunk.to_vec(), 0, Rc::from(hops), 0);
+        let lent = lent.unwrap_or(self.pair.lent(&chunk));
+        let given = self.pair.call_chunk(self.library, t, lent, &chunk);
+        let given = given.map_err(|difference| self.wrong(lent, &chunk, difference.0))?;
+        self.documented(lent, &chunk, given, refused(number))
     }
 
     /// A chunk is given a number, and leaves these counts and words.
-    fn import(&mut self, chunk: &[u8], number: u64, counts: [u32; 3], words: [u32; 3]) -> Result<(), String> {
+    pub fn import(
+        &mut self,
+        chunk: &[u8],
+        number: u64,
+        counts: [u32; 3],
+        words: [u32; 3],
+    ) -> Result<(), String> {
         self.import_with(&T, None, chunk, &HOPS, number)?;
         self.left(counts, words)
     }
@@ -79,7 +86,7 @@ impl Case<'_> {
         self.holds((*left, *kept) == (counts, words), &what)
     }
 
-    fn end_gives(&mut self, number: u64) -> Result<(), String> {
+    pub fn end_gives(&mut self, number: u64) -> Result<(), String> {
         let end = self.pair.stream.end();
         let lent = self.pair.lent(&end);
         let given = self.pair.end_stream(self.library, &end);
@@ -88,7 +95,7 @@ impl Case<'_> {
     }
 
     /// The room begins with these bytes, and no other has changed.
-    fn kept(&self, bytes: &[u8]) -> Result<(), String> {
+    pub fn kept(&self, bytes: &[u8]) -> Result<(), String> {
         let room = &self.pair.stream.held().room;
         let rest = room[bytes.len()..].iter().all(|byte| *byte == 7);
         self.holds(room.starts_with(bytes) && rest, "what came stands in the room, and nothing else does")
@@ -282,8 +289,7 @@ fn refused_chunks(library: &mut Library) -> Result<(), String> {
 
     case.begin([0; 3], [0; 3]);
     case.import(&RECORD[..20], 0, [0; 3], [0, 20, 30])?;
-    let import = case.pair.stream.import(Vec::new(), 0, Rc::from([]), 0);
-    let lent = case.pair.lent(&import);
+    let lent = case.pair.lent(&case.pair.stream.end());
     for chunk in [&[][..], &RECORD[20..]] {
         for lent in one_off(lent) {
             case.import_with(&T, Some(lent), chunk, &HOPS, 2)?;
@@ -353,14 +359,8 @@ fn words(library: &mut Library) -> Result<(), String> {
         (49, 65_500, [0; 3], [0, 0, 65_499]),
         (11, 1, [0; 3], [0; 3]),
     ] {
-        case.pair.stream.begin(
-            case.library,
-            case.pair.area,
-            0,
-            [0; 3],
-            [0, kept, to_come],
-            Some(room.clone()),
-        );
+        case.begin([0; 3], [0; 3]);
+        case.pair.stream.begin(case.library, case.pair.area, 0, [0, kept, to_come], Some(room.clone()));
         case.import(&RECORD[49..], 0, counts, words)?;
     }
     Ok(())

@@ -42,7 +42,7 @@ fn with(at: usize, bytes: &[u8]) -> Vec<u8> {
 }
 
 /// A message of these bytes after the header, which says its length.
-fn update(body: &[u8]) -> Vec<u8> {
+pub fn update(body: &[u8]) -> Vec<u8> {
     let mut bytes = MESSAGE[..19].to_vec();
     bytes.extend(body);
     let length = bytes.len() as u16;
