@@ -107,10 +107,18 @@ answers-agree :
     ∷ right-answer T our-calls our-lookups (add-8 ∷ []) (ip 10 2 2 3)
     ∷ right-answer T our-calls our-lookups (add-8 ∷ add-16 ∷ []) (ip 10 2 2 3)
     ∷ right-answer T our-calls our-lookups again (ip 10 2 2 3)
-    ∷ right-answer T our-calls our-lookups (again ++ Withdraw (ip 10 0 0 0) 8 ∷ []) (ip 10 2 2 3)
+    ∷ []
+    ) ≡ true
+unfolding every agreeing
+answers-agree = refl
+
+-- and so of what withdrawals leave
+answers-left-agree :
+    every (
+    right-answer T our-calls our-lookups (again ++ Withdraw (ip 10 0 0 0) 8 ∷ []) (ip 10 2 2 3)
     ∷ right-answer T our-calls our-lookups (pair ++ Withdraw (ip 8 0 0 0) 8 ∷ []) (ip 10 2 2 3)
     ∷ right-answer Z our-calls our-lookups four-then-one 4
     ∷ []
     ) ≡ true
 unfolding every agreeing
-answers-agree = refl
+answers-left-agree = refl
