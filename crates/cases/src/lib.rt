@@ -224,3 +224,45 @@ pub fn sums(bytes: &[u8], words: &[u32]) {
     sum_of_bytes(bytes);
     sum_of_words(words);
 }
+
+// Writes sums of a table, and of the front of a stream's room.
+pub fn show(counters: &[u8], slots: &[u32], room: &[u8]) {
+    let many = bytes_lent(256, room);
+    sums(counters, slots);
+    sum_of_bytes(&room[..many]);
+}
+
+fn word(n: u32) {
+    digits(n as u64);
+}
+
+fn list(words: &[u32]) {
+    let mut i = 0;
+    while i < words.len() {
+        word(words[i]);
+        i += 1;
+    }
+}
+
+// Writes each number of two lists, and ends the line.
+pub fn finish(counts: &[u32], words: &[u32]) {
+    list(counts);
+    list(words);
+    end();
+}
+
+// Puts bytes at the front of others, as far as there is room.
+pub fn fill(bytes: &mut [u8], front: &[u8]) {
+    let mut i = 0;
+    while i < front.len() {
+        put_byte(bytes, i, front[i]);
+        i += 1;
+    }
+}
+
+// The same, and then the byte of a case at its place.
+pub fn fill_but(bytes: &mut [u8], front: &[u8], case: u64) {
+    let place = hop_of(case) as usize;
+    fill(bytes, front);
+    put_byte(bytes, place, (prefix_of(case) % 0x100) as u8);
+}

@@ -48,7 +48,7 @@ const LEND: u32 = 9;
 //   1077: It, and one NEXT_HOP in each of two entries, which is well-formed.
 //   1163: 11.0.0.0/8 by 10.9.9.1 and by 10.9.9.4, 10.0.0.0/8 and 9.0.0.0/8, the default, 10.0.0.1/32, 12.0.0.0/8
 //     with no entry, and a record of no hop.
-//   1451: Kinds 13/1, 12/2, 16/2, 269/2, 13/3 and 13/258, 11.0.0.0/8, and kind 16/4 with a body of 2^32 - 1 bytes.
+//   1451: Kinds 13/4, 12/2, 16/2, 269/2, 13/3 and 13/258, 11.0.0.0/8, and kind 16/4 with a body of 2^32 - 1 bytes.
 //   1582: 11.0.0.0/8, and a header with a body of 65,537 bytes.
 //   1629: It, and such a header of another kind.
 //   1676: 127.0.0.0/8, 239.255.255.255/32 and 224.0.0.0/4, which are odd, and 126.0.0.0/7, 224.0.0.0/3, 240.0.0.0/4
@@ -117,7 +117,7 @@ const RECORDS: [u8; 1966] = *b"\x65\x00\x00\x00\x00\x0d\x00\x01\x00\x00\x00\x05\
     \x00\x0d\x00\x02\x00\x00\x00\x08\x00\x00\x00\x00\x08\x0c\x00\x00\x65\x00\x00\x00\x00\x0d\x00\x02\x00\x00\x00\
     \x2c\x00\x00\x00\x00\x09\x0a\xff\x00\x03\x00\x01\x00\x00\x00\x09\x00\x04\x40\x01\x01\x00\x00\x01\x00\x00\x00\
     \x09\x00\x00\x00\x01\x00\x00\x00\x09\x00\x07\x40\x03\x04\x0a\x09\x09\x08\
-    \x65\x00\x00\x00\x00\x0d\x00\x01\x00\x00\x00\x00\x65\x00\x00\x00\x00\x0c\x00\x02\x00\x00\x00\x01\x01\x65\x00\
+    \x65\x00\x00\x00\x00\x0d\x00\x04\x00\x00\x00\x00\x65\x00\x00\x00\x00\x0c\x00\x02\x00\x00\x00\x01\x01\x65\x00\
     \x00\x00\x00\x10\x00\x02\x00\x00\x00\x02\x01\x02\x65\x00\x00\x00\x01\x0d\x00\x02\x00\x00\x00\x03\x01\x02\x03\
     \x65\x00\x00\x00\x00\x0d\x00\x03\x00\x00\x00\x01\x01\x65\x00\x00\x00\x00\x0d\x01\x02\x00\x00\x00\x01\x01\x65\
     \x00\x00\x00\x00\x0d\x00\x02\x00\x00\x00\x17\x00\x00\x00\x00\x08\x0b\x00\x01\x00\x01\x00\x00\x00\x09\x00\x07\
@@ -704,12 +704,6 @@ fn take(
     }
 }
 
-// The room's first bytes.
-fn show_front(room: &[u8]) {
-    let many = cases::bytes_lent(256, room);
-    cases::sums(&room[..many], &[]);
-}
-
 // So many bytes of the dump from a place on, over as much of the table as is lent.
 fn chunk(
     lent: Lent,
@@ -737,8 +731,7 @@ fn chunk(
         room,
         &rest[..many],
     );
-    cases::sums(counters, slots);
-    show_front(room);
+    cases::show(counters, slots, room);
 }
 
 fn end(from_c: bool, words: &mut [u32; 3]) {
@@ -747,16 +740,6 @@ fn end(from_c: bool, words: &mut [u32; 3]) {
     } else {
         cases::digits(stream_records::end_stream(words) as u64);
     }
-}
-
-fn show_word(n: u32) {
-    cases::digits(n as u64);
-}
-
-fn show(three: &[u32; 3]) {
-    show_word(three[0]);
-    show_word(three[1]);
-    show_word(three[2]);
 }
 
 fn begin(counters: &mut [u8], slots: &mut [u32], counts: &mut [u32; 3], words: &mut [u32; 3]) {
@@ -803,9 +786,7 @@ fn line(
         END => end(lent.from_c, words),
         _ => prepare(hops, counts, words, room, case),
     }
-    show(counts);
-    show(words);
-    cases::end();
+    cases::finish(counts, words);
 }
 
 // The cases of a list, one after the other over the same memory.
@@ -834,15 +815,6 @@ fn run(
     }
 }
 
-// Puts the records at the front of the dump.
-fn fill(dump: &mut [u8], records: &[u8]) {
-    let mut i = 0;
-    while i < records.len() {
-        cases::put_byte(dump, i, records[i]);
-        i += 1;
-    }
-}
-
 fn main() {
     let mut counters = [7u8; 512];
     let mut slots = [7u32; 257];
@@ -851,7 +823,7 @@ fn main() {
     let mut words = [0u32; 3];
     let mut room = [0xaau8; 65548];
     let mut dump = [0u8; 131108];
-    fill(&mut dump, &RECORDS);
+    cases::fill(&mut dump, &RECORDS);
     run(
         &CASES,
         &mut counters,

@@ -1,16 +1,16 @@
--- The dump keeps its length.
+-- The bytes keep their number.
 use Prim.Native.Nat.{_-_}
 use mathlib.Core.Path.{_≡_}
 use lib.ListN.{length}
 use borrow.Author.Needs.{needs}
-use Rattle.cases_imports.proofs.fill.Statement.{statement}
-use Rattle.cases_imports.proofs.fill.Tie as tie
+use Rattle.cases.proofs.fill.Statement.{statement}
+use Rattle.cases.proofs.fill.Tie as tie
 
 abbrev Inv-loop : tie.InvT-loop
-Inv-loop dump₀ records i₀ dump i = length dump ≡ length dump₀
+Inv-loop bytes₀ front i₀ bytes i = length bytes ≡ length bytes₀
 
 abbrev μ-loop : tie.MeasureT-loop
-μ-loop dump₀ records i₀ dump i = length records - i
+μ-loop bytes₀ front i₀ bytes i = length front - i
 
 pub fill-spec : {M : Type 1} → statement M
 fill-spec =
