@@ -212,7 +212,8 @@ pub struct Lent {
 pub struct Stream {
     /// Of an import: routes accepted, routes refused, records with none.
     pub counts: [u32; 3],
-    /// Of a replay: records seen, UPDATEs applied, routes accepted, and routes refused under each number from 0 to 19.
+    /// Of a replay: how many records it saw, how many UPDATEs it applied, how many of their routes were accepted,
+    /// and how many were refused, from number 0 to number 19.
     pub tally: [u32; FIGURES],
     pub words: [u32; 3],
     /// Always 65,548 bytes.

@@ -6,8 +6,7 @@ use crate::messages::{read, Said};
 use crate::replays::held;
 use crate::routes::Routes;
 
-/// Where in a tally the figures stand: records seen, UPDATEs applied, routes accepted, and routes refused, from the
-/// place of number 0 on.
+/// Where the figures of a tally stand; the last is the place of number 0, after which the other numbers follow.
 pub const SEEN: usize = 0;
 pub const APPLIED: usize = 1;
 pub const ACCEPTED: usize = 2;
