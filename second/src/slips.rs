@@ -746,7 +746,7 @@ slips! {
     ReplayFamilyLowByte: "replay: only the low byte of the address family is read",
     ReplayFamiliesEnd: "replay: address families other than IPv4 end it with 12",
     ReplayIpv6Asked: "replay: an IPv6 body too short for its addresses and a message's header gives 12",
-    ReplayShortFamilySeen: "replay: a body too short to hold the address family is only seen",
+    ReplayShortFamilySeen: "replay: a body that ends before its address family does is only seen",
     ReplayShortMessageSeen: "replay: an IPv4 body too short for addresses and a message's header is only seen",
     ReplayOtherTypesMarker: "replay: a KEEPALIVE, or what else is no UPDATE, with a bad marker ends it with 12",
     ReplayBytesAfter: "replay: bytes after the message, as long as that says it is, pass",

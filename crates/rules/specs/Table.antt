@@ -447,7 +447,7 @@ whole-words (b0 ∷ b1 ∷ []) = []
 whole-words (b0 ∷ b1 ∷ b2 ∷ []) = []
 whole-words (b0 ∷ b1 ∷ b2 ∷ b3 ∷ bytes) = (b0 + b1 * 2 ^ 8 + b2 * 2 ^ 16 + b3 * 2 ^ 24) ∷ whole-words bytes
 
--- bytes that are not a whole number of words are no slots, so their size is wrong for any settings
+-- where four does not divide their count, bytes are no slots, so their size is wrong for any settings
 unfoldable pub words : (bytes : List ℕ) → List ℕ
 words bytes = cond (eqb (length bytes % 4) 0) (whole-words bytes) []
 
@@ -474,7 +474,7 @@ unfoldable pub bytes-of : (words : List ℕ) → List ℕ
 bytes-of [] = []
 bytes-of (word ∷ words) = word % 2 ^ 8 ∷ word / 2 ^ 8 % 2 ^ 8 ∷ word / 2 ^ 16 % 2 ^ 8 ∷ word / 2 ^ 24 ∷ bytes-of words
 
--- what a list of addresses gives back to C: 18 also for bytes that are not a whole number of words
+-- what a list of addresses gives back to C: 18 also where four does not divide the count of its bytes
 unfoldable pub c-list-refusal : Settings → (counters slots addresses results : List ℕ) → ℕ
 c-list-refusal t counters slots addresses results =
     list-refusal t (lent counters (words slots)) (length addresses) (length results)
