@@ -49,11 +49,11 @@ pub struct Settings {
 #[derive(Clone, Copy, Debug)]
 pub enum Call {
     Clear,
-    Add { prefix: u32, length: u32, hop: u32 },
-    Withdraw { prefix: u32, length: u32 },
-    Change { prefix: u32, length: u32, hop: u32 },
+    Add { party: u32, prefix: u32, length: u32, hop: u32 },
+    Withdraw { party: u32, prefix: u32, length: u32 },
+    Change { party: u32, prefix: u32, length: u32, hop: u32 },
     Vector { address: u32 },
-    Lookup { address: u32 },
+    Lookup { party: u32, address: u32 },
 }
 
 impl Call {
@@ -71,6 +71,7 @@ impl Call {
 /// word's address.
 #[derive(Clone, Debug)]
 pub struct List {
+    pub party: u32,
     pub addresses: Vec<u8>,
     pub addresses_offset: usize,
     /// What the results hold before the call.
@@ -82,6 +83,7 @@ pub struct List {
 /// which begins so many words after its place.
 #[derive(Clone, Debug)]
 pub struct Message {
+    pub party: u32,
     pub bytes: Vec<u8>,
     pub offset: usize,
     pub hops: Vec<u32>,
@@ -122,6 +124,7 @@ pub struct StreamOffsets {
 /// so many words after its place.
 #[derive(Clone, Debug)]
 pub struct Chunk {
+    pub party: u32,
     pub of: Of,
     pub bytes: Vec<u8>,
     pub offset: usize,

@@ -32,18 +32,26 @@ pub fn ended(words: &[u32; 3], slip: Option<Slip>) -> Option<u32> {
     }
 }
 
-/// The number 1 or 2, if a single add gives it. No memory goes with this one, so it can change none.
+/// The number 1 or 2, if a single add gives it.
 pub fn table_refusal(t: &Settings, lent: Lent, slip: Option<Slip>) -> Option<u32> {
-    let call = Call::Add { prefix: 0, length: 0, hop: 0 };
-    match answer(t, &mut [], &mut [], lent, call, slip) / REFUSAL {
-        // Only a slip gives 18.
-        number @ (1 | 2 | 18) => Some(number as u32),
-        _ => None,
-    }
+    // Only a slip gives 18.
+    add_refusal(t, 0, lent, slip).filter(|number| matches!(number, 1 | 2 | 18))
 }
 
-/// The number that a chunk gets before its bytes are looked at, if it gets one: that which ended the stream,
-/// then 19, then 1 or 2.
+/// The number 15, if a single add for the party gives it.
+pub fn party_refusal(t: &Settings, party: u32, lent: Lent, slip: Option<Slip>) -> Option<u32> {
+    add_refusal(t, party, lent, slip).filter(|number| *number == 15)
+}
+
+/// The number that a single add gives. No memory goes with this one, so it can change none.
+fn add_refusal(t: &Settings, party: u32, lent: Lent, slip: Option<Slip>) -> Option<u32> {
+    let call = Call::Add { party, prefix: 0, length: 0, hop: 0 };
+    let number = answer(t, &mut [], &mut [], lent, call, slip) / REFUSAL;
+    Some(number as u32).filter(|number| *number != 0)
+}
+
+/// The number that a chunk gets before its party and its bytes are looked at, if it gets one: that which
+/// ended the stream, then 19, then 1 or 2.
 pub fn before_all(words: &[u32; 3], too_much: bool, of_table: Option<u32>, slip: Option<Slip>) -> Option<u32> {
     let of_end = match (slip, ended(words, slip)) {
         (Some(Slip::StreamGoesOnAfterEnd), Some(0)) => None,

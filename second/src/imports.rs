@@ -1,8 +1,8 @@
 //! A dump that comes in chunks: what C gets, and what table, counts, words and room hold after each call.
 //!
 //! `framing` takes every byte by itself. `records` says what stands in a body and which hop it gives. Each
-//! route is done by a single add of `rules`, which is also asked for refusals 1 and 2. Slips are told as there:
-//! the arm `_` and the first value of `or` are right.
+//! route is done by a single add of `rules`, which is also asked for refusals 1, 2 and 15. Slips are told as
+//! there: the arm `_` and the first value of `or` are right.
 
 use super::calls::{Call, Lent, Settings, Stream};
 use super::framing::{self, Place, Step, HEADER, MOST, REFUSAL};
@@ -17,13 +17,14 @@ pub fn import_chunk(
     t: &Settings,
     counters: &mut [u8],
     slots: &mut [u32],
+    party: u32,
     lent: Lent,
     hops: &[u32],
     stream: &mut Stream,
     chunk: &[u8],
     slip: Option<Slip>,
 ) -> u64 {
-    let mut import = Import { t, counters, slots, lent, hops, stream, slip };
+    let mut import = Import { t, counters, slots, party, lent, hops, stream, slip };
     let number = match import.before_all(chunk) {
         Some(number) => import.refused(number),
         None => import.take_all(chunk),
@@ -61,6 +62,7 @@ struct Import<'a> {
     t: &'a Settings,
     counters: &'a mut [u8],
     slots: &'a mut [u32],
+    party: u32,
     lent: Lent,
     hops: &'a [u32],
     stream: &'a mut Stream,
@@ -90,7 +92,8 @@ impl Import<'_> {
             Some(Slip::ImportTableBefore19) => of_table.is_none() && self.too_much(chunk),
             _ => self.too_much(chunk),
         };
-        framing::before_all(&self.stream.words, too_much, of_table, self.slip)
+        let of_party = framing::party_refusal(self.t, self.party, self.lent, self.rules_slip());
+        framing::before_all(&self.stream.words, too_much, of_table, self.slip).or(of_party)
     }
 
     /// Whether the chunk is too long, or a count too high.
@@ -123,7 +126,7 @@ impl Import<'_> {
 
     /// Gives a number back; nothing is written, but by a slip.
     fn refused(&mut self, number: u32) -> u32 {
-        if self.is(Slip::ImportRefusedEnds) && self.stream.words[0] == 0 {
+        if self.is(Slip::ImportRefusedEnds) && self.stream.words[0] == 0 && number != 15 {
             self.stream.words = [number + 1, 0, 0];
         }
         number
@@ -251,7 +254,8 @@ impl Import<'_> {
                 _ => self.count(2),
             };
         };
-        let call = Call::Add { prefix, length, hop };
+        let party = self.or(self.party, Slip::StreamParty0, 0);
+        let call = Call::Add { party, prefix, length, hop };
         let slip = self.rules_slip();
         match answer(self.t, self.counters, self.slots, self.lent, call, slip) / REFUSAL {
             0 => self.count(0),

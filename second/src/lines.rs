@@ -1,11 +1,14 @@
-//! The text program: one answer to each line, over a table of settings T that starts cleared.
+//! The text program: one answer to each line, over a table of settings T that starts cleared. It is party 0.
 //!
 //! As in `rules`, what stands under `_`, or when no slip is named, is the right rule.
 
 use super::calls::{Call, Lent, Settings};
 use super::line_slips::LineSlip;
-use super::rules::{answer, counter_bytes, slot_words, T};
+use super::rules::{answer, counter_bytes, default_word, mark, slot_words, T};
 use super::slips::Slip;
+
+/// The party that every line is for.
+const PARTY: u32 = 0;
 
 /// The longest line that is read, without its byte 10.
 const LONGEST: usize = 64;
@@ -83,7 +86,7 @@ impl Reader {
         };
         let mut slots = vec![0; slot_words(&t)];
         if slip == Some(LineSlip::StartsWithDefault) {
-            slots[slot_words(&t) - 1] = 1;
+            slots[default_word(&t, PARTY)] = mark(PARTY, 0);
         }
         Reader { t, counters: vec![0; counter_bytes(&t)], slots, slip }
     }
@@ -158,24 +161,24 @@ impl Reader {
             (b"add", [prefix]) if self.is(LineSlip::HopLeftOut) => self.add(prefix, b"0"),
             (b"drop", [prefix]) => {
                 let (prefix, length) = self.prefix(prefix)?;
-                Some(Call::Withdraw { prefix, length })
+                Some(Call::Withdraw { party: PARTY, prefix, length })
             }
             (b"move", [prefix, hop]) if self.is(LineSlip::MoveAdds) => self.add(prefix, hop),
             (b"move", [prefix, hop]) => {
                 let (prefix, length) = self.prefix(prefix)?;
-                Some(Call::Change { prefix, length, hop: self.hop(hop)? })
+                Some(Call::Change { party: PARTY, prefix, length, hop: self.hop(hop)? })
             }
             (b"find", [prefix]) if self.is(LineSlip::FindWithLength) && prefix.contains(&b'/') => {
-                Some(Call::Lookup { address: self.prefix(prefix)?.0 })
+                Some(Call::Lookup { party: PARTY, address: self.prefix(prefix)?.0 })
             }
-            (b"find", [address]) => Some(Call::Lookup { address: self.address(address)? }),
+            (b"find", [address]) => Some(Call::Lookup { party: PARTY, address: self.address(address)? }),
             _ => None,
         }
     }
 
     fn add(&self, prefix: &[u8], hop: &[u8]) -> Option<Call> {
         let (prefix, length) = self.prefix(prefix)?;
-        Some(Call::Add { prefix, length, hop: self.hop(hop)? })
+        Some(Call::Add { party: PARTY, prefix, length, hop: self.hop(hop)? })
     }
 
     /// What stands between the spaces of a line: an empty word where two spaces meet.

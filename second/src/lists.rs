@@ -1,7 +1,7 @@
 //! One call with a list of addresses, as it crosses from C: what C gets and what lies in the results.
 //!
-//! Each address is asked by a single lookup of `rules`, and so are refusals 1 and 2; what is the list's own
-//! stands here. Slips are told as there: the arm `_` and the first value of `or` are right.
+//! Each address is asked by a single lookup of `rules`, and so are refusals 1, 2 and 15; what is the list's
+//! own stands here. Slips are told as there: the arm `_` and the first value of `or` are right.
 
 use super::calls::{Call, Lent, Settings};
 use super::rules::answer;
@@ -18,12 +18,13 @@ pub fn answer_list(
     t: &Settings,
     counters: &mut [u8],
     slots: &mut [u32],
+    party: u32,
     lent: Lent,
     addresses: &[u8],
     results: &mut [u8],
     slip: Option<Slip>,
 ) -> u64 {
-    let mut queue = Queue { t, counters, slots, lent, addresses, results, slip };
+    let mut queue = Queue { t, counters, slots, party, lent, addresses, results, slip };
     let refusal = queue.refusal();
     if refusal != 0 {
         queue.begun(refusal);
@@ -38,6 +39,7 @@ struct Queue<'a> {
     t: &'a Settings,
     counters: &'a mut [u8],
     slots: &'a mut [u32],
+    party: u32,
     lent: Lent,
     addresses: &'a [u8],
     results: &'a mut [u8],
@@ -60,26 +62,26 @@ impl Queue<'_> {
         }
     }
 
-    /// The first refusal whose condition holds, in the order 1, 2, 18; 0 if none does.
+    /// The first refusal whose condition holds, in the order 1, 2, 15, 18; 0 if none does.
     fn refusal(&mut self) -> u64 {
         let of_table = self.table_refusal();
         let of_lists = self.lists_refusal();
         match (self.slip, of_table, of_lists) {
             (Some(Slip::ListBeforeSettings), _, 1..) => of_lists,
-            (Some(Slip::ListBeforeSize), 2, 1..) => of_lists,
+            (Some(Slip::ListBeforeSize), 2 | 15, 1..) => of_lists,
             (_, 1.., _) => of_table,
             _ => of_lists,
         }
     }
 
-    /// The number 1 or 2, if a single lookup gives it; which address it asks about is all the same.
+    /// The number 1, 2 or 15, if a single lookup gives it; which address it asks about is all the same.
     fn table_refusal(&mut self) -> u64 {
-        let number = self.lookup(0);
-        match self.slip {
-            Some(Slip::ListEmptyUnasked) if self.addresses.is_empty() => 0,
-            // A refusal has zeros beside it. Only a slip gives a hop that reaches this far up.
-            _ if number % REFUSAL == 0 => number / REFUSAL,
-            _ => 0,
+        let number = self.lookup(self.party, 0);
+        // A refusal has zeros beside it. Only a slip gives a hop that reaches this far up.
+        let refusal = if number % REFUSAL == 0 { number / REFUSAL } else { 0 };
+        match (self.slip, refusal) {
+            (Some(Slip::ListEmptyUnasked), 1 | 2) if self.addresses.is_empty() => 0,
+            _ => refusal,
         }
     }
 
@@ -152,7 +154,7 @@ impl Queue<'_> {
 
 impl Queue<'_> {
     /// What a single lookup gives. Slips of its 64-bit number are left out: no such number crosses here.
-    fn lookup(&mut self, address: u32) -> u64 {
+    fn lookup(&mut self, party: u32, address: u32) -> u64 {
         let slip = self.slip.filter(|slip| {
             !matches!(
                 slip,
@@ -163,13 +165,14 @@ impl Queue<'_> {
                     | Slip::RefusedWithOne
             )
         });
-        answer(self.t, self.counters, self.slots, self.lent, Call::Lookup { address }, slip)
+        answer(self.t, self.counters, self.slots, self.lent, Call::Lookup { party, address }, slip)
     }
 
     /// The four words of address n; those of the address before it are asked only by slips.
     fn words(&mut self, n: usize, before: Words) -> Words {
         let asked = self.or(n, Slip::ListOneBehind, n.saturating_sub(1));
-        let number = self.lookup(self.address(asked));
+        let party = self.or(self.party, Slip::ListParty0, 0);
+        let number = self.lookup(party, self.address(asked));
         let part = |from: u32, bits: u32| (number >> from) as u32 & ((1 << bits) - 1);
         let (found, hop, length, probes) = (part(40, 8), part(16, 24), part(8, 8), part(0, 8));
         match self.slip {

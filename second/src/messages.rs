@@ -1,7 +1,7 @@
 //! One UPDATE message on lent memory: what C gets, and what the table holds afterwards.
 //!
 //! `reading` says what stands in the message. Each route is done by a single call of `rules`, which is also
-//! asked for refusals 1 and 2. Slips are told as there: the arm `_` is right.
+//! asked for refusals 1, 2 and 15. Slips are told as there: the arm `_` is right.
 
 use std::collections::BTreeSet;
 
@@ -21,13 +21,14 @@ pub fn read_message(
     t: &Settings,
     counters: &mut [u8],
     slots: &mut [u32],
+    party: u32,
     lent: Lent,
     message: &[u8],
     hops: &[u32],
     slip: Option<Slip>,
 ) -> u64 {
     let (said, fault) = read_with(message, slip);
-    let mut update = Update { t, counters, slots, lent, hops, said, fault, slip };
+    let mut update = Update { t, counters, slots, party, lent, hops, said, fault, slip };
     let refusal = update.refusal();
     if refusal != 0 {
         update.begun(refusal);
@@ -41,6 +42,7 @@ struct Update<'a> {
     t: &'a Settings,
     counters: &'a mut [u8],
     slots: &'a mut [u32],
+    party: u32,
     lent: Lent,
     hops: &'a [u32],
     /// All that was read before the fault.
@@ -56,15 +58,16 @@ impl Update<'_> {
         self.slip == Some(slip)
     }
 
-    /// The first refusal whose condition holds, in the order 1, 2, 12, 13; 0 if none does.
+    /// The first refusal whose condition holds, in the order 1, 2, 15, 12, 13; 0 if none does.
     fn refusal(&self) -> u64 {
         let (of_table, of_message, of_hops) =
             (self.table_refusal(), self.message_refusal(), self.hops_refusal());
         match (self.slip, of_table, of_message, of_hops) {
             (Some(Slip::MessageBeforeSettings), 1.., 1.., _) => of_message,
-            (Some(Slip::MessageBeforeSize), 2, 1.., _) => of_message,
+            (Some(Slip::MessageBeforeSize), 2 | 15, 1.., _) => of_message,
+            (Some(Slip::MessageBeforeParty), 15, 1.., _) => of_message,
             (Some(Slip::MessageHopBeforeSettings), 1.., 0, 1..) => of_hops,
-            (Some(Slip::MessageHopBeforeSize), 2, 0, 1..) => of_hops,
+            (Some(Slip::MessageHopBeforeSize), 2 | 15, 0, 1..) => of_hops,
             (Some(Slip::MessageHopBeforeAnnounced), 0, 1.., _) if self.announced_faulty() => {
                 self.hop().map_or(13, |_| of_message)
             }
@@ -74,18 +77,17 @@ impl Update<'_> {
         }
     }
 
-    /// The number 1 or 2, if single updates give it. No memory goes with this one, so it can change none.
+    /// The number 1, 2 or 15, if single updates give it. No memory goes with this one, so it can change none.
     fn table_refusal(&self) -> u64 {
         let no_route = self.said.withdrawn.is_empty() && self.said.announced.is_empty();
-        match self.slip {
-            Some(Slip::MessageTableUnasked) => return 0,
-            Some(Slip::MessageEmptyUnasked) if no_route => return 0,
-            _ => (),
-        }
-        let call = Call::Add { prefix: 0, length: 0, hop: 0 };
-        match answer(self.t, &mut [], &mut [], self.lent, call, self.rules_slip()) / REFUSAL {
+        let call = Call::Add { party: self.party, prefix: 0, length: 0, hop: 0 };
+        let number = answer(self.t, &mut [], &mut [], self.lent, call, self.rules_slip()) / REFUSAL;
+        match (self.slip, number) {
+            (_, 15) => 15,
+            (Some(Slip::MessageTableUnasked), _) => 0,
+            (Some(Slip::MessageEmptyUnasked), _) if no_route => 0,
             // Only a slip gives 18.
-            number @ (1 | 2 | 18) => number,
+            (_, 1 | 2 | 18) => number,
             _ => 0,
         }
     }
@@ -214,7 +216,11 @@ struct Counts {
 
 impl Update<'_> {
     fn withdrawals(&self) -> Vec<Call> {
-        let call = |(prefix, length)| Call::Withdraw { prefix, length };
+        let party = match self.slip {
+            Some(Slip::MessageWithdrawnParty0) => 0,
+            _ => self.party,
+        };
+        let call = |(prefix, length)| Call::Withdraw { party, prefix, length };
         let mut routes = self.said.withdrawn.clone();
         match self.slip {
             Some(Slip::MessageWithdrawnReversed) => routes.reverse(),
@@ -229,10 +235,10 @@ impl Update<'_> {
 
     fn announcements(&self) -> Vec<Call> {
         // Only slips announce without a hop number: each add then gives 5, or 11 for an odd prefix.
-        let hop = self.hop().unwrap_or(u32::MAX);
+        let (party, hop) = (self.party, self.hop().unwrap_or(u32::MAX));
         let call = |(prefix, length)| match self.slip {
-            Some(Slip::MessageAnnouncedChanged) => Call::Change { prefix, length, hop },
-            _ => Call::Add { prefix, length, hop },
+            Some(Slip::MessageAnnouncedChanged) => Call::Change { party, prefix, length, hop },
+            _ => Call::Add { party, prefix, length, hop },
         };
         let mut routes = self.said.announced.clone();
         match self.slip {
@@ -315,8 +321,8 @@ impl Update<'_> {
     /// it was one.
     fn replaced(&mut self, call: Call) -> bool {
         match call {
-            Call::Add { prefix, length, hop } if !odd(length, prefix) => {
-                self.single(Call::Change { prefix, length, hop }) == 0
+            Call::Add { party, prefix, length, hop } if !odd(length, prefix) => {
+                self.single(Call::Change { party, prefix, length, hop }) == 0
             }
             _ => false,
         }

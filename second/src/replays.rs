@@ -2,8 +2,8 @@
 //! call.
 //!
 //! `framing` takes every byte by itself, and `reading` says what stands in an UPDATE. Each route is done by a
-//! single call of `rules`, which is also asked for refusals 1 and 2. Slips are told as there: the arm `_` and
-//! the first value of `or` are right.
+//! single call of `rules`, which is also asked for refusals 1, 2 and 15. Slips are told as there: the arm `_`
+//! and the first value of `or` are right.
 
 use super::calls::{Call, Lent, Settings, Stream};
 use super::framing::{self, number, Place, Step, HEADER, MOST, REFUSAL};
@@ -27,13 +27,14 @@ pub fn replay_chunk(
     t: &Settings,
     counters: &mut [u8],
     slots: &mut [u32],
+    party: u32,
     lent: Lent,
     hops: &[u32],
     stream: &mut Stream,
     chunk: &[u8],
     slip: Option<Slip>,
 ) -> u64 {
-    let mut replay = Replay { t, counters, slots, lent, hops, stream, slip };
+    let mut replay = Replay { t, counters, slots, party, lent, hops, stream, slip };
     let number = match replay.before_all(chunk) {
         Some(number) => number,
         None => replay.take_all(chunk),
@@ -117,6 +118,7 @@ struct Replay<'a> {
     t: &'a Settings,
     counters: &'a mut [u8],
     slots: &'a mut [u32],
+    party: u32,
     lent: Lent,
     hops: &'a [u32],
     stream: &'a mut Stream,
@@ -140,7 +142,8 @@ impl Replay<'_> {
     /// The number that a chunk gets before its bytes are looked at, if it gets one.
     fn before_all(&self, chunk: &[u8]) -> Option<u32> {
         let of_table = framing::table_refusal(self.t, self.lent, self.rules_slip());
-        framing::before_all(&self.stream.words, self.too_much(chunk), of_table, self.slip)
+        let of_party = framing::party_refusal(self.t, self.party, self.lent, self.rules_slip());
+        framing::before_all(&self.stream.words, self.too_much(chunk), of_table, self.slip).or(of_party)
     }
 
     /// Whether the chunk is too long, or a figure of the tally too high.
@@ -297,7 +300,7 @@ impl Replay<'_> {
         match self.slip {
             Some(Slip::ReplayHopApplied) => self.count(APPLIED),
             Some(Slip::ReplayHopWithdraws) => {
-                self.routes(withdrawals(said));
+                self.routes(self.withdrawals(said));
             }
             Some(Slip::ReplayHopCounted) => said.announced.iter().for_each(|_| self.count(REFUSED + 13)),
             _ => (),
@@ -306,7 +309,7 @@ impl Replay<'_> {
 
     /// Does every route of an UPDATE, the withdrawn ones first, and counts it as applied.
     fn apply(&mut self, said: &Said, hop: u32) {
-        let mut parts = [withdrawals(said), adds(said, hop)];
+        let mut parts = [self.withdrawals(said), self.adds(said, hop)];
         if self.is(Slip::ReplayAnnouncedFirst) {
             parts.reverse();
         }
@@ -339,12 +342,14 @@ impl Replay<'_> {
         }
         refused
     }
-}
 
-fn withdrawals(said: &Said) -> Vec<Call> {
-    said.withdrawn.iter().map(|&(prefix, length)| Call::Withdraw { prefix, length }).collect()
-}
+    fn withdrawals(&self, said: &Said) -> Vec<Call> {
+        let party = self.or(self.party, Slip::StreamParty0, 0);
+        said.withdrawn.iter().map(|&(prefix, length)| Call::Withdraw { party, prefix, length }).collect()
+    }
 
-fn adds(said: &Said, hop: u32) -> Vec<Call> {
-    said.announced.iter().map(|&(prefix, length)| Call::Add { prefix, length, hop }).collect()
+    fn adds(&self, said: &Said, hop: u32) -> Vec<Call> {
+        let party = self.or(self.party, Slip::StreamParty0, 0);
+        said.announced.iter().map(|&(prefix, length)| Call::Add { party, prefix, length, hop }).collect()
+    }
 }

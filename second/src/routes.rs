@@ -1,4 +1,5 @@
-//! The table on paper: a list of routes and what demands 2 and 3 ask of it. No memory, no counters.
+//! The table on paper: a list of both parties' routes and what demands 2 and 3 ask of it. No memory, no
+//! counters.
 //!
 //! As in `rules`, the arm `_` of a `match` on the slip is the right rule.
 
@@ -9,6 +10,7 @@ use super::slips::Slip;
 /// A stored route, with what its settings make of its prefix (nothing for the default).
 #[derive(Clone)]
 pub struct Route {
+    pub party: u32,
     pub prefix: u32,
     pub length: u32,
     pub hop: u32,
@@ -41,21 +43,22 @@ impl Routes {
         &self.list
     }
 
-    /// Does a clear or an update that refusals 1 to 5 let pass; gives its refusal, 0 for none. An add that
-    /// gets 11 gets it whatever its hop, since 5 is asked later.
+    /// Does a clear or an update that refusals 1 to 5 and 15 let pass; gives its refusal, 0 for none. An add
+    /// that gets 11 gets it whatever its hop, since 5 is asked later.
     pub fn update(&mut self, call: Call) -> u64 {
         match call {
             Call::Clear => self.clear(),
-            Call::Add { prefix, length, hop } => self.add(prefix, length, hop),
-            Call::Withdraw { prefix, length } => self.withdraw(prefix, length),
-            Call::Change { prefix, length, hop } => self.change(prefix, length, hop),
+            Call::Add { party, prefix, length, hop } => self.add(party, prefix, length, hop),
+            Call::Withdraw { party, prefix, length } => self.withdraw(party, prefix, length),
+            Call::Change { party, prefix, length, hop } => self.change(party, prefix, length, hop),
             Call::Vector { .. } | Call::Lookup { .. } => 0,
         }
     }
 
-    /// The longest matching route and the probes it takes, as a lookup's number.
-    pub fn lookup(&self, address: u32) -> u64 {
-        let matching = self.list.iter().filter(|route| self.matches(route, address));
+    /// A party's longest matching route and the probes it takes, as a lookup's number.
+    pub fn lookup(&self, party: u32, address: u32) -> u64 {
+        let own = self.list.iter().filter(|route| route.party == party);
+        let matching = own.filter(|route| self.matches(route, address));
         let best = match self.slip {
             Some(Slip::PaperShortest) => matching.min_by_key(|route| route.length),
             Some(Slip::PaperDefaultIgnored) => {
@@ -68,14 +71,14 @@ impl Routes {
             None => (0, 0, 0),
         };
         let extra = if self.is(Slip::PaperProbesDefault) && found == 1 && length == 0 { 1 } else { 0 };
-        let probes = self.probes(address, length) + extra;
+        let probes = self.probes(party, address, length) + extra;
         found * 2u64.pow(40) + hop * 2u64.pow(16) + length as u64 * 2u64.pow(8) + probes
     }
 
     /// One bit for each length at which the stored routes cover the address.
     pub fn vector(&self, address: u32) -> u64 {
         let bit = |length: u32| 2u64.pow(if self.is(Slip::PaperVectorBitL) { length } else { length - 1 });
-        (1..=32).filter(|length| self.covered(*length, address)).map(bit).sum()
+        (1..=32).filter(|length| self.covered(&[0, 1], *length, address)).map(bit).sum()
     }
 
     /// K for each route of a length that has counters.
@@ -93,12 +96,12 @@ impl Routes {
         self.slip == Some(slip)
     }
 
-    fn route(&self, prefix: u32, length: u32, hop: u32) -> Route {
+    fn route(&self, party: u32, prefix: u32, length: u32, hop: u32) -> Route {
         if length == 0 {
-            return Route { prefix, length, hop, positions: Vec::new(), bucket: 0 };
+            return Route { party, prefix, length, hop, positions: Vec::new(), bucket: 0 };
         }
         let positions = self.positions(length, prefix);
-        Route { prefix, length, hop, positions, bucket: bucket(&self.t, prefix) }
+        Route { party, prefix, length, hop, positions, bucket: bucket(&self.t, prefix) }
     }
 
     /// The positions of a prefix in the filter of its length.
@@ -115,10 +118,10 @@ impl Routes {
         positions(&self.t, by, p)
     }
 
-    /// Where in the list a route stands.
-    fn find(&self, prefix: u32, length: u32, any_length: Slip) -> Option<usize> {
+    /// Where in the list a party's route stands.
+    fn find(&self, party: u32, prefix: u32, length: u32, any_length: Slip) -> Option<usize> {
         let same = |route: &Route| route.length == length || self.is(any_length);
-        self.list.iter().position(|route| route.prefix == prefix && same(route))
+        self.list.iter().position(|route| route.party == party && route.prefix == prefix && same(route))
     }
 }
 
@@ -141,15 +144,15 @@ impl Routes {
         0
     }
 
-    fn add(&mut self, prefix: u32, length: u32, hop: u32) -> u64 {
+    fn add(&mut self, party: u32, prefix: u32, length: u32, hop: u32) -> u64 {
         match self.slip {
-            Some(Slip::PaperOddUnasked) => self.take(prefix, length, hop),
+            Some(Slip::PaperOddUnasked) => self.take(party, prefix, length, hop),
             Some(Slip::PaperOddListed) if self.odd(prefix, length) => {
-                self.take(prefix, length, hop);
+                self.take(party, prefix, length, hop);
                 11
             }
             _ if self.odd(prefix, length) => 11,
-            _ => self.take(prefix, length, hop),
+            _ => self.take(party, prefix, length, hop),
         }
     }
 
@@ -166,10 +169,10 @@ impl Routes {
         both(127, 127) || both(224, 239)
     }
 
-    /// Lists a route that is not odd, or sets its hop if it is listed.
-    fn take(&mut self, prefix: u32, length: u32, hop: u32) -> u64 {
-        let new = self.route(prefix, length, hop);
-        if let Some(at) = self.find(prefix, length, Slip::PaperAddAnyLength) {
+    /// Lists a route that is not odd, or sets its hop if the party has it listed.
+    fn take(&mut self, party: u32, prefix: u32, length: u32, hop: u32) -> u64 {
+        let new = self.route(party, prefix, length, hop);
+        if let Some(at) = self.find(party, prefix, length, Slip::PaperAddAnyLength) {
             match self.slip {
                 Some(Slip::PaperReplaceListsAgain) => (),
                 Some(Slip::PaperReplaceRefused) => return 6,
@@ -201,7 +204,7 @@ impl Routes {
         }
     }
 
-    /// Whether as many routes as a bucket has slots share length and bucket with the new one.
+    /// Whether as many routes as a bucket has slots, whoever's, share length and bucket with the new one.
     fn full(&self, new: &Route) -> bool {
         let most = match self.slip {
             Some(Slip::PaperFullEarly) => self.t.s as usize - 1,
@@ -216,7 +219,7 @@ impl Routes {
         self.list.iter().filter(same).count() + freed >= most
     }
 
-    /// Whether some position of the new route, with the hits there already, would have more than 15.
+    /// Whether some position of the new route, with all hits there already, would have more than 15.
     fn over(&self, new: &Route) -> bool {
         let most = match self.slip {
             Some(Slip::PaperRoomTo14) => 14,
@@ -228,13 +231,15 @@ impl Routes {
             _ => route.hits(j),
         };
         let any_length = self.is(Slip::PaperRoomAnyLength);
-        let beside = || self.list.iter().filter(|route| route.length == new.length || any_length);
+        let of_length = |route: &&Route| route.length == new.length || any_length;
+        let fills = |route: &&Route| route.party == new.party || !self.is(Slip::PaperRoomOwnOnly);
+        let beside = || self.list.iter().filter(of_length).filter(fills);
         let sum = |j: usize| beside().map(|route| hits(route, j)).sum::<usize>() + hits(new, j);
         new.positions.iter().any(|j| sum(*j) > most)
     }
 
-    fn withdraw(&mut self, prefix: u32, length: u32) -> u64 {
-        match self.find(prefix, length, Slip::PaperWithdrawAnyLength) {
+    fn withdraw(&mut self, party: u32, prefix: u32, length: u32) -> u64 {
+        match self.find(party, prefix, length, Slip::PaperWithdrawAnyLength) {
             Some(_) if self.is(Slip::PaperWithdrawKeeps) => 0,
             Some(at) => {
                 let route = self.list.remove(at);
@@ -248,8 +253,8 @@ impl Routes {
         }
     }
 
-    fn change(&mut self, prefix: u32, length: u32, hop: u32) -> u64 {
-        match self.find(prefix, length, Slip::PaperWithdrawAnyLength) {
+    fn change(&mut self, party: u32, prefix: u32, length: u32, hop: u32) -> u64 {
+        match self.find(party, prefix, length, Slip::PaperWithdrawAnyLength) {
             Some(_) if self.is(Slip::PaperChangeKeeps) => 0,
             Some(at) => {
                 self.list[at].hop = hop;
@@ -273,20 +278,26 @@ impl Routes {
     }
 
     /// How many lengths, from 32 down to the answer's (or to 1), are covered.
-    fn probes(&self, address: u32, length: u32) -> u64 {
+    fn probes(&self, party: u32, address: u32, length: u32) -> u64 {
         let last = match self.slip {
             Some(Slip::PaperProbesToOne) => 1,
             Some(Slip::PaperProbesAbove) => length + 1,
             _ => length.max(1),
         };
-        (last..=32).filter(|length| self.covered(*length, address)).count() as u64
+        let parties = match self.slip {
+            Some(Slip::PaperProbesOwnOnly) => vec![party],
+            _ => vec![0, 1],
+        };
+        (last..=32).filter(|length| self.covered(&parties, *length, address)).count() as u64
     }
 
-    /// Whether each position of the address at a length belongs to some stored route of that length.
-    fn covered(&self, length: u32, address: u32) -> bool {
+    /// Whether each position of the address at a length belongs to some stored route of that length, one of
+    /// these parties'.
+    fn covered(&self, parties: &[u32], length: u32, address: u32) -> bool {
         let p = prefix(length, address);
         let any_length = self.is(Slip::PaperProbesAnyLength);
-        let stored = || self.list.iter().filter(|route| route.length == length || any_length);
+        let of_length = |route: &&Route| route.length == length || any_length;
+        let stored = || self.list.iter().filter(of_length).filter(|route| parties.contains(&route.party));
         let asked = match self.slip {
             Some(Slip::PaperAskedFirst) => positions(&self.t, 1, p),
             _ => self.positions(length, p),

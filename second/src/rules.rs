@@ -5,7 +5,7 @@
 //! so that a slip gone astray reads zero and writes nothing.
 
 use super::calls::{Call, Lent, Settings, Sizes};
-use super::slips::{swapped, unasked, walks, Slip};
+use super::slips::{swapped, takes_either, unasked, walks, Slip};
 
 /// The settings of the small worked table: its filters are all of one size.
 pub const T: Settings = Settings { k: 2, d: Sizes::equal(4), e: 1, s: 2, a: 1, b: 2, c: 1 };
@@ -223,9 +223,19 @@ fn counters_asked(t: &Settings, slip: Option<Slip>) -> usize {
     asked as usize
 }
 
-/// How many words of slot memory, the default's mark included.
+/// How many words of slot memory, the marks of both parties' defaults included.
 pub fn slot_words(t: &Settings) -> usize {
-    64u64.saturating_mul(two_to(t.e)).saturating_mul(t.s as u64).saturating_add(1) as usize
+    64u64.saturating_mul(two_to(t.e)).saturating_mul(t.s as u64).saturating_add(2) as usize
+}
+
+/// Which word holds the mark of a party's default: after all slots, party 0's and then party 1's.
+pub fn default_word(t: &Settings, party: u32) -> usize {
+    (slot_words(t) - 2).saturating_add(party as usize)
+}
+
+/// The mark that stands for a party's hop. Only slips ask for a hop or a party that has none.
+pub fn mark(party: u32, hop: u32) -> u32 {
+    hop.wrapping_add(1).wrapping_add(party.wrapping_mul(65_536))
 }
 
 /// The byte of one counter.
@@ -296,7 +306,9 @@ pub fn answer(
     let t = taken(t, slip);
     let bytes = counters.len().min(lent.counters).min(counter_bytes(&t));
     let words = slots.len().min(lent.slots / call.units()).min(slot_words(&t));
-    let mut table = Table { t, counters: &mut counters[..bytes], slots: &mut slots[..words], slip };
+    let (party, either) = (party_of(call), takes_either(call, slip));
+    let (counters, slots) = (&mut counters[..bytes], &mut slots[..words]);
+    let mut table = Table { t, party, either, counters, slots, slip };
     let asked = Asked::of(call, slip);
     let numbers = numbers(call, slip);
     if let Some(refusal) = numbers.into_iter().find(|number| table.given(*number, lent, call, asked)) {
@@ -306,7 +318,7 @@ pub fn answer(
     let Asked { p, length, hop } = asked;
     match call {
         Call::Vector { address } => return table.vector(address),
-        Call::Lookup { address } => return table.lookup(address),
+        Call::Lookup { address, .. } => return table.lookup(address),
         _ if slip == Some(Slip::ShamWritesNothing) => (),
         Call::Clear => table.clear(),
         Call::Add { .. } => table.add(call, asked),
@@ -314,6 +326,17 @@ pub fn answer(
         Call::Change { .. } => table.change(p, length, hop),
     }
     0
+}
+
+/// The party that a call names; 0 for one that names none.
+fn party_of(call: Call) -> u32 {
+    match call {
+        Call::Clear | Call::Vector { .. } => 0,
+        Call::Add { party, .. }
+        | Call::Withdraw { party, .. }
+        | Call::Change { party, .. }
+        | Call::Lookup { party, .. } => party,
+    }
 }
 
 /// What an update is about; zeros for the other calls.
@@ -327,8 +350,10 @@ struct Asked {
 impl Asked {
     fn of(call: Call, slip: Option<Slip>) -> Asked {
         let (p, length, hop) = match call {
-            Call::Add { prefix, length, hop } | Call::Change { prefix, length, hop } => (prefix, length, hop),
-            Call::Withdraw { prefix, length } => (prefix, length, 0),
+            Call::Add { prefix, length, hop, .. } | Call::Change { prefix, length, hop, .. } => {
+                (prefix, length, hop)
+            }
+            Call::Withdraw { prefix, length, .. } => (prefix, length, 0),
             _ => (0, 0, 0),
         };
         match slip {
@@ -343,19 +368,20 @@ impl Asked {
 /// The refusals that a call can get, in the order in which they are asked.
 fn numbers(call: Call, slip: Option<Slip>) -> Vec<u64> {
     let mut order = match call {
-        Call::Clear | Call::Vector { .. } | Call::Lookup { .. } => vec![1, 2],
+        Call::Clear | Call::Vector { .. } => vec![1, 2],
+        Call::Lookup { .. } => vec![1, 2, 15],
         Call::Add { .. } => match slip {
-            Some(Slip::ReplaceRefused | Slip::DefaultReplaceRefused) => vec![1, 2, 3, 4, 11, 5, 6, 8, 9],
-            Some(Slip::OddLast) => vec![1, 2, 3, 4, 5, 8, 9, 11],
-            _ => vec![1, 2, 3, 4, 11, 5, 8, 9],
+            Some(Slip::ReplaceRefused | Slip::DefaultReplaceRefused) => vec![1, 2, 15, 3, 4, 11, 5, 6, 8, 9],
+            Some(Slip::OddLast) => vec![1, 2, 15, 3, 4, 5, 8, 9, 11],
+            _ => vec![1, 2, 15, 3, 4, 11, 5, 8, 9],
         },
         Call::Withdraw { .. } => match slip {
-            Some(Slip::WithdrawAsksOdd) => vec![1, 2, 3, 4, 11, 7, 10],
-            _ => vec![1, 2, 3, 4, 7, 10],
+            Some(Slip::WithdrawAsksOdd) => vec![1, 2, 15, 3, 4, 11, 7, 10],
+            _ => vec![1, 2, 15, 3, 4, 7, 10],
         },
         Call::Change { .. } => match slip {
-            Some(Slip::ChangeAsksOdd) => vec![1, 2, 3, 4, 11, 5, 7],
-            _ => vec![1, 2, 3, 4, 5, 7],
+            Some(Slip::ChangeAsksOdd) => vec![1, 2, 15, 3, 4, 11, 5, 7],
+            _ => vec![1, 2, 15, 3, 4, 5, 7],
         },
     };
     let (one, other) = swapped(slip);
@@ -367,9 +393,13 @@ fn numbers(call: Call, slip: Option<Slip>) -> Vec<u64> {
     order
 }
 
-/// The lent memory, as long as the settings ask and no longer, with the settings it is read by.
+/// The lent memory, as long as the settings ask and no longer, with the settings it is read by and the party
+/// that it is read for.
 struct Table<'a> {
     t: Settings,
+    party: u32,
+    /// Whether the other party's slots are taken for the caller's, as only slips do.
+    either: bool,
     counters: &'a mut [u8],
     slots: &'a mut [u32],
     slip: Option<Slip>,
@@ -421,6 +451,7 @@ impl Table<'_> {
             }
             11 if self.is(Slip::OddStoredReplaced) && stored() => false,
             11 => kept_out(length, p, self.slip),
+            15 => self.party > self.or(1, Slip::PartyTo0, 0),
             _ => from_one(Slip::DefaultAsksHits) && self.too_few(p, length.max(1)),
         }
     }
@@ -478,7 +509,12 @@ impl Table<'_> {
 
     fn sizes_wrong(&self, lent: Lent, call: Call) -> bool {
         let units = self.or(call.units(), Slip::SlotsBytesAsWords, 1);
-        let words = slot_words(&self.t) - self.or(0, Slip::SlotsNoDefault, 1);
+        let unasked = match self.slip {
+            Some(Slip::SlotsNoDefault) => 2,
+            Some(Slip::SlotsOneDefault) => 1,
+            _ => 0,
+        };
+        let words = slot_words(&self.t) - unasked;
         let slots = words.saturating_mul(units);
         let counters = counters_asked(&self.t, self.slip);
         match self.slip {
@@ -515,7 +551,8 @@ impl Table<'_> {
         }
     }
 
-    /// Whether some occupied slot of its bucket holds the prefix; for length 0, whether there is a default.
+    /// Whether some slot of the caller's, in its bucket, holds the prefix; for length 0, whether the caller
+    /// has a default.
     fn stored(&self, p: u32, length: u32, call: Call) -> bool {
         if length == 0 {
             return self.default_hop().is_some();
@@ -540,6 +577,7 @@ impl Table<'_> {
     fn full(&self, p: u32, length: u32) -> bool {
         match self.slip {
             Some(Slip::FullOneEarly) => self.free(length, p).len() <= 1,
+            Some(Slip::FullOwnOnly) => self.bucket_slots(length, p).all(|n| self.hop(self.mark(n)).is_some()),
             _ => self.free(length, p).is_empty(),
         }
     }
@@ -666,43 +704,67 @@ impl Table<'_> {
         self.set_word(mark_at, mark);
     }
 
-    /// The hop of an occupied mark; nothing for a free one.
-    fn hop(&self, mark: u32) -> Option<u64> {
+    /// Whose an occupied mark is; nothing for a free one.
+    fn owner(&self, mark: u32) -> Option<u32> {
         let (least, most) = match self.slip {
             Some(Slip::Mark0Occupied) => (0, 65_536),
             Some(Slip::Mark1Free) => (2, 65_536),
             Some(Slip::Mark65536Free) => (1, 65_535),
             Some(Slip::Mark65537Occupied) => (1, 65_537),
-            Some(Slip::MarkNonzeroOccupied) => (1, u32::MAX),
             _ => (1, 65_536),
         };
-        let hop = self.or(mark.wrapping_sub(1), Slip::HopIsMark, mark);
+        let last = match self.slip {
+            Some(Slip::Mark131073Occupied) => 131_073,
+            Some(Slip::MarkNonzeroOccupied) => u32::MAX,
+            _ => 131_072,
+        };
         if least <= mark && mark <= most {
-            Some(hop as u64)
+            Some(0)
+        } else if 65_537 <= mark && mark <= last {
+            Some(1)
         } else {
             None
         }
     }
 
-    /// The mark that stands for a hop.
-    fn marked(&self, hop: u32) -> u32 {
-        self.or(hop.wrapping_add(1), Slip::MarkIsHop, hop)
+    /// The hop of an occupied mark, whoever's it is; nothing for a free one.
+    fn any_hop(&self, held: u32) -> Option<u64> {
+        let owner = self.owner(held)?;
+        let hop = match self.slip {
+            Some(Slip::HopIsMark) => held,
+            Some(Slip::HopMarkLess1) => held.wrapping_sub(1),
+            _ => held.wrapping_sub(mark(owner, 0)),
+        };
+        Some(hop as u64)
     }
 
-    /// Which word holds the default's mark.
+    /// The hop of a mark of the caller's; nothing for any other.
+    fn hop(&self, mark: u32) -> Option<u64> {
+        self.any_hop(mark).filter(|_| self.owner(mark) == Some(self.party))
+    }
+
+    /// The mark that stands for a hop of the caller's.
+    fn marked(&self, hop: u32) -> u32 {
+        self.or(mark(self.party, hop), Slip::MarkIsHop, hop)
+    }
+
+    /// Which word holds the mark of the caller's default.
     fn default_at(&self) -> u64 {
         let words = slot_words(&self.t) as u64;
         match self.slip {
             Some(Slip::DefaultWordFirst) => 0,
             Some(Slip::DefaultWordBefore) => words.saturating_sub(2),
-            _ => words - 1,
+            Some(Slip::DefaultWordLast) => words - 1,
+            _ => default_word(&self.t, self.party) as u64,
         }
     }
 
+    /// The hop of the caller's default, if there is one.
     fn default_hop(&self) -> Option<u64> {
         let mark = self.word(self.default_at());
         match self.slip {
-            Some(Slip::DefaultNonzero) if mark != 0 => Some(mark as u64 - 1),
+            Some(Slip::DefaultNonzero) if mark != 0 => self.hop(mark).or(Some(mark as u64 - 1)),
+            Some(Slip::DefaultEitherParty) => self.any_hop(mark),
             _ => self.hop(mark),
         }
     }
@@ -713,7 +775,7 @@ impl Table<'_> {
         first..first + self.t.s as u64
     }
 
-    /// The occupied slots of the bucket that hold the prefix, lowest first.
+    /// The caller's slots of the bucket that hold the prefix, lowest first.
     fn holding(&self, length: u32, p: u32) -> Vec<u64> {
         let own = self.bucket_slots(length, p);
         let searched = match self.slip {
@@ -729,17 +791,26 @@ impl Table<'_> {
             _ => own,
         };
         searched
-            .filter(|n| self.hop(self.mark(*n)).is_some() || self.is(Slip::SearchUnmarked))
+            .filter(|n| self.searched(self.mark(*n)))
             .filter(|n| self.held(*n) == p || self.is(Slip::SearchAnyPrefix))
             .collect()
     }
 
-    /// The free slots of the bucket, lowest first.
+    /// Whether a search takes a slot of this mark: whether the mark is the caller's.
+    fn searched(&self, mark: u32) -> bool {
+        match self.owner(mark) {
+            Some(owner) => owner == self.party || self.either,
+            None => self.is(Slip::SearchUnmarked),
+        }
+    }
+
+    /// The free slots of the bucket, which neither party has, lowest first.
     fn free(&self, length: u32, p: u32) -> Vec<u64> {
         self.bucket_slots(length, p)
             .filter(|n| match self.slip {
                 Some(Slip::FreeOnlyZero) => self.mark(*n) == 0,
-                _ => self.hop(self.mark(*n)).is_none(),
+                Some(Slip::FreeOtherParty) => self.hop(self.mark(*n)).is_none(),
+                _ => self.owner(self.mark(*n)).is_none(),
             })
             .collect()
     }
@@ -762,14 +833,26 @@ impl Table<'_> {
         };
         let words = match self.slip {
             Some(Slip::ClearKeepsSlots) => 0,
-            Some(Slip::ClearKeepsDefault) => self.slots.len().saturating_sub(1),
+            Some(Slip::ClearKeepsDefault) => self.slots.len().saturating_sub(2),
             _ => self.slots.len(),
         };
         self.counters[..bytes].fill(0);
         for at in 0..words {
-            if !self.is(Slip::ClearMarksOnly) || at % 2 == 1 || at + 1 == words {
+            if self.cleared(at) {
                 self.slots[at] = 0;
             }
+        }
+    }
+
+    /// Whether a clear that has come to a word writes it: always, but for slips.
+    fn cleared(&self, at: usize) -> bool {
+        let of_default = at >= default_word(&self.t, 0);
+        // The word that says whose this one is: of a slot, the second.
+        let mark_at = if of_default { at } else { at / 2 * 2 + 1 };
+        match self.slip {
+            Some(Slip::ClearMarksOnly) => of_default || at == mark_at,
+            Some(Slip::ClearKeepsParty1) => self.owner(self.word(mark_at as u64)) != Some(1),
+            _ => true,
         }
     }
 
@@ -791,7 +874,7 @@ impl Table<'_> {
         self.raise(length, p);
     }
 
-    /// An add of a stored prefix: the lowest slot that holds it gets a new mark.
+    /// An add of a stored prefix: the caller's lowest slot that holds it gets a new mark.
     fn replace(&mut self, p: u32, length: u32, hop: u32) {
         if length == 0 {
             return self.set_default(self.marked(hop), Slip::DefaultReplaceUnwritten);
@@ -851,7 +934,7 @@ impl Table<'_> {
         }
     }
 
-    /// Empties the lowest slot that holds a prefix.
+    /// Empties the caller's lowest slot that holds a prefix.
     fn empty(&mut self, length: u32, p: u32) {
         let holding = self.holding(length, p);
         let lowest = self.lowest(holding.clone(), Slip::WithdrawHighest).into_iter().collect();
@@ -1003,7 +1086,7 @@ impl Table<'_> {
                 continue;
             }
             if let Some(n) = self.lowest(self.holding(length, p), Slip::LookupHighest) {
-                let hop = self.hop(self.mark(n)).unwrap_or(0);
+                let hop = self.any_hop(self.mark(n)).unwrap_or(0);
                 return (Some((hop, length as u64)), probes);
             }
             if self.is(Slip::LookupStopsAtFirst) {
@@ -1050,7 +1133,7 @@ impl Table<'_> {
 pub fn walk_agrees(address: u32) -> bool {
     let sizes: Vec<u8> = (1..=32).map(|length| 4 + length * 5 % 8).collect();
     let t = Settings { d: Sizes::of(&sizes), a: 3, b: 5, ..T };
-    let table = Table { t, counters: &mut [], slots: &mut [], slip: None };
+    let table = Table { t, party: 0, either: false, counters: &mut [], slots: &mut [], slip: None };
     let cuts = (1..=32).rev().map(|length| Stage::cut(&t, length, address));
     table.walk(address).into_iter().eq(cuts)
 }

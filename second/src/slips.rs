@@ -74,6 +74,7 @@ slips! {
     SlotsLonger: "more slot memory than asked passes",
     SlotsShorter: "less slot memory than asked passes",
     SlotsNoDefault: "no room is asked for the default's mark",
+    SlotsOneDefault: "room is asked for one default's mark only, as if there were one party",
     SlotsBytesAsWords: "a question's bytes are not asked fourfold",
     SlotsBytesRounded: "a question's odd bytes at the end pass",
     // Prefixes.
@@ -124,16 +125,23 @@ slips! {
     SlotByBucket: "slots of one bucket number lie together, not of one length",
     MarkBeforePrefix: "the mark lies before the prefix",
     DefaultWordFirst: "the default's mark is the first word",
+    // Differs only for party 1, whose default then lies in party 0's word.
     DefaultWordBefore: "the default's mark is the last word but one",
+    // Differs only for party 0, whose default then lies in party 1's word.
+    DefaultWordLast: "the default's mark is the last word",
     // Marks.
     Mark0Occupied: "a mark of 0 is occupied",
     Mark1Free: "a mark of 1 is free",
     Mark65536Free: "a mark of 65,536 is free",
-    Mark65537Occupied: "a mark of 65,537 is occupied",
+    Mark65537Occupied: "a mark of 65,537 is occupied by party 0",
+    Mark131073Occupied: "a mark of 131,073 is occupied",
     MarkNonzeroOccupied: "every mark but 0 is occupied",
     FreeOnlyZero: "an add takes no slot but one of mark 0",
+    FreeOtherParty: "an add takes a slot of the other party for free",
     DefaultNonzero: "every default mark but 0 is occupied",
+    DefaultEitherParty: "a default word counts the other party's marks too",
     HopIsMark: "the hop read is the mark itself",
+    HopMarkLess1: "the hop read is the mark less 1 for either party: 65,537 gives 65,536",
     MarkIsHop: "the mark written is the hop itself",
     // Search of a bucket.
     SearchUnmarked: "a free slot is found too",
@@ -149,6 +157,7 @@ slips! {
     ClearKeepsSlots: "a clear leaves the slots",
     ClearMarksOnly: "a clear leaves the prefixes",
     ClearKeepsDefault: "a clear leaves the default",
+    ClearKeepsParty1: "a clear leaves the slots and the default of party 1",
     // Add.
     AddHighest: "an add takes the highest free slot",
     AddPrefixUnwritten: "an add does not write the prefix",
@@ -171,9 +180,11 @@ slips! {
     ReplaceMendsFilter: "an add of a stored prefix that the filter denies raises the counters",
     ReplaceAsksBucket: "an add of a stored prefix can be refused as 8",
     ReplaceAsksRoom: "an add of a stored prefix can be refused as 9",
+    ReplaceEitherParty: "an add of a prefix that the other party has stored replaces its route",
     // Withdraw.
     WithdrawHighest: "a withdrawal takes the highest slot",
     WithdrawEverySlot: "a withdrawal takes every slot that holds the prefix",
+    WithdrawEitherParty: "a withdrawal takes the other party's route too",
     WithdrawPrefixLeft: "a withdrawal leaves the prefix word",
     WithdrawMarkLeft: "a withdrawal leaves the mark",
     WithdrawClosesGap: "a withdrawal moves later slots down",
@@ -210,6 +221,7 @@ slips! {
     LookupUpward: "the shortest length is probed first",
     LookupStopsAtFirst: "the search ends at the highest claimed length",
     LookupUnfiltered: "lengths that the filter denies are probed too",
+    LookupEitherParty: "a lookup finds the other party's routes in its buckets too",
     LookupHighest: "the highest slot gives the hop",
     DefaultFirst: "the default answers before any bucket",
     DefaultNever: "the default never answers",
@@ -255,6 +267,7 @@ slips! {
     SizeBeforeList: "2 is asked before 1 for the list of D, after 1 for the other settings",
     SizeBeforeCount: "2 is asked before 1 for the count of the list, after 1 for all else",
     LengthBeforeSize: "3 is asked before 2",
+    PartyAfterLength: "15 is asked after 3",
     BitBeforeLength: "4 is asked before 3",
     HopBeforeBit: "5 is asked before 4",
     UnstoredBeforeHop: "7 is asked before 5",
@@ -288,6 +301,7 @@ slips! {
     WithdrawAsksOdd: "a withdrawal gives 11 too",
     ChangeAsksOdd: "a change gives 11 too",
     // What each refusal asks.
+    PartyTo0: "party 1 is refused as 15",
     LengthTo31: "length 32 is refused",
     LengthTo33: "length 33 passes",
     LengthLowByte: "only the low byte of a length is read",
@@ -301,6 +315,7 @@ slips! {
     AddAsksFilter: "an add takes as stored only what the filter claims",
     WithdrawAsksFilter: "a withdrawal takes as stored only what the filter claims",
     ChangeAsksFilter: "a change takes as stored only what the filter claims",
+    FullOwnOnly: "8 is given only where every slot of the bucket is the caller's own",
     FullOneEarly: "the last free slot of a bucket is not given",
     FullSpills: "a full bucket goes on into the next slot after it",
     RoomTo14: "a counter may not reach 15",
@@ -369,6 +384,7 @@ slips! {
     PaperRoomTo16: "paper: 9 from 17 on",
     PaperRoomOnce: "paper: a route hits a position at most once",
     PaperRoomAnyLength: "paper: routes of other lengths fill counters too",
+    PaperRoomOwnOnly: "paper: only the caller's own routes fill counters",
     PaperRoomBeforeFull: "paper: 9 is asked before 8",
     PaperSevenUnasked: "paper: 7 is never given",
     PaperWithdrawKeeps: "paper: a withdrawn route stays",
@@ -381,6 +397,7 @@ slips! {
     PaperProbesAbove: "paper: the answer's own length is not counted",
     PaperProbesOneRoute: "paper: one route must cover all positions",
     PaperProbesAnyLength: "paper: routes of other lengths cover positions too",
+    PaperProbesOwnOnly: "paper: only the caller's own routes cover positions of a lookup",
     PaperProbesFirst: "paper: only the first position need be covered",
     PaperProbesInUse: "paper: every length in use is counted",
     PaperProbesStored: "paper: only lengths whose prefix is stored are counted",
@@ -422,11 +439,13 @@ slips! {
     ListLastMissed: "list: the last address is not answered",
     ListStopsAtNone: "list: no address after the first none is answered",
     ListOneBehind: "list: each address but the first has the answer of the one before it",
+    ListParty0: "list: every address is looked up for party 0",
     ListProbesRunOn: "list: the probes of the addresses before are counted too",
     ListNoneKeepsRoute: "list: none has the hop and length of the result before it",
     // Messages: which refusal, and when.
     MessageBeforeSettings: "message: 12 is asked before 1 and 2",
     MessageBeforeSize: "message: 12 is asked before 2",
+    MessageBeforeParty: "message: 12 is asked before 15",
     MessageHopBeforeSettings: "message: 13 is asked before 1 and 2",
     MessageHopBeforeSize: "message: 13 is asked before 2",
     MessageHopBeforeAnnounced: "message: 13 is asked before the announced prefixes are read",
@@ -573,6 +592,7 @@ slips! {
     MessageFirstAnnouncedOnly: "message: only the first announced route is done",
     MessageRepeatSkipped: "message: a route that stands twice in its part is done once",
     MessageAnnouncedUnwithdrawn: "message: a withdrawn route that is announced too is not withdrawn",
+    MessageWithdrawnParty0: "message: withdrawn routes are withdrawn for party 0",
     MessageAnnouncedChanged: "message: an announced route is a change, not an add",
     MessageStopsAtRefused: "message: nothing is done after a refused route",
     MessageRefusedWithdrawalEnds: "message: nothing is announced after a refused withdrawal",
@@ -648,6 +668,8 @@ slips! {
     WrittenPrefixLowEnd: "written: the bytes of a prefix are its last octets",
     WrittenLengthLast: "written: the prefix length stands after its bytes",
     WrittenLengthInBytes: "written: the prefix length is in bytes, not bits",
+    // Imports: whose routes.
+    StreamParty0: "stream: every route is added or withdrawn for party 0",
     // Imports: what is asked before any byte, and in which order.
     StreamEndedAfter19: "stream: 19 is asked before the number that ended it is given",
     StreamEndedLast: "stream: 19, 1 and 2 are asked before the number that ended it is given",
@@ -769,6 +791,7 @@ pub fn swapped(slip: Option<Slip>) -> (u64, u64) {
     match slip {
         Some(Slip::SizeBeforeSettings) => (1, 2),
         Some(Slip::LengthBeforeSize) => (2, 3),
+        Some(Slip::PartyAfterLength) => (15, 3),
         Some(Slip::BitBeforeLength) => (3, 4),
         Some(Slip::HopBeforeBit) => (4, 5),
         Some(Slip::UnstoredBeforeHop) => (5, 7),
@@ -804,6 +827,16 @@ pub fn unasked(call: Call, slip: Option<Slip>) -> u64 {
         (Some(Slip::HitsUnasked | Slip::WithdrawStopsAtZero), Call::Withdraw { .. }) => 10,
         _ => 0,
     }
+}
+
+/// Whether a call takes the other party's slots for its own.
+pub fn takes_either(call: Call, slip: Option<Slip>) -> bool {
+    matches!(
+        (slip, call),
+        (Some(Slip::ReplaceEitherParty), Call::Add { .. })
+            | (Some(Slip::WithdrawEitherParty), Call::Withdraw { .. })
+            | (Some(Slip::LookupEitherParty), Call::Lookup { .. })
+    )
 }
 
 /// Whether a slip bends the walk; the questions then go by it.
