@@ -4,8 +4,8 @@
 #   make test                      every test; its last line is the verdict, 'N passed, 0 failed'
 #   make lib                       the proved library for C: target/staticlib/libgateway.a
 #   make examples                  C programs: target/forward forwards by a table, target/neighbour applies a
-#                                  neighbour's messages, target/fill fills a table from dumps, and target/replay
-#                                  replays recorded days
+#                                  neighbour's messages, target/fill fills a table from dumps, target/replay
+#                                  replays recorded days, and in target/shared two parties share a table
 #   make install PREFIX=/usr/local header, archive and pkg-config file; DESTDIR is put before PREFIX
 #   make uninstall                 takes these three away again
 #   make settings                  measures which settings take how many routes, and what a D for each length
@@ -25,7 +25,8 @@
 #   make bench BEFORE=COMMIT       the time of all calls but change, clear, the end of a stream and the writing
 #                                  of withdrawals beside those of an earlier commit's library, which is proved
 #                                  and built first; one up to 0.5, with one D for all lengths, only on tables
-#                                  that have one, and messages, imports and replays only if it has them
+#                                  that have one, and messages, imports and replays only if it has them. All
+#                                  calls are party 0's, as are those of one up to 0.9
 #   make clean                     removes target/, where all of this is built
 #
 # Needed are the kit's command rt on the PATH (but for make settings and make clean), gcc for all that
@@ -61,10 +62,11 @@ lib: $(ARCHIVE)
 $(ARCHIVE): $(shell find crates crates.txt -type f)
 	@$(RT) staticlib gateway
 
-examples: target/forward target/neighbour target/fill target/replay
+EXAMPLES = target/forward target/neighbour target/fill target/replay target/shared
 
-target/forward target/neighbour target/fill target/replay: target/%: \
-    examples/%.c examples/text.h examples/files.h include/gateway.h $(ARCHIVE)
+examples: $(EXAMPLES)
+
+$(EXAMPLES): target/%: examples/%.c examples/text.h examples/files.h examples/lines.h include/gateway.h $(ARCHIVE)
 	$(CC) $(WARNINGS) $(CFLAGS) -Iinclude -o $@ $< $(ARCHIVE)
 
 INTO = $(DESTDIR)$(PREFIX)

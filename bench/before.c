@@ -3,9 +3,10 @@
  * run. The earlier one's functions are called before_lookup and so on, this one's now_lookup. Every answer of
  * the two is compared, and after updates every byte. Who goes first changes from round to round, and who has
  * which memory. Messages, imports and replays are left out where the earlier library does not have them, and so are
- * tables with a D for each length. It is told whether the earlier one takes one D for all lengths, or a list.
+ * tables with a D for each length. It is told whether the earlier one takes one D for all lengths, a list of D, or a
+ * list and a party. All calls are party 0's.
  *
- *     before NAME one-d|list
+ *     before NAME one-d|list|parties
  */
 #include "measure.h"
 
@@ -17,7 +18,8 @@
     extern __typeof__(gateway_add) word##_add;                                                     \
     extern __typeof__(gateway_withdraw) word##_withdraw;                                           \
     extern __typeof__(gateway_change) word##_change;                                               \
-    extern __typeof__(gateway_lookup) word##_lookup, word##_match_vector;                          \
+    extern __typeof__(gateway_lookup) word##_lookup;                                               \
+    extern __typeof__(gateway_match_vector) word##_match_vector;                                   \
     extern __typeof__(gateway_lookup_list) word##_lookup_list;                                     \
     extern __typeof__(gateway_update) word##_update __attribute__((weak));                         \
     extern __typeof__(gateway_write_withdrawal) word##_write_withdrawal __attribute__((weak));     \
@@ -58,7 +60,7 @@ static void measure_questions(const struct table *t)
     for (int round = 0; round < ROUNDS; round++) {
         const struct memory *m = &memory[round % BOTH];
         IN_TURNS (i, one)
-            ask_each(&vector[one], t, m, libraries[one], libraries[one]->match_vector, given[one]);
+            ask_vectors(&vector[one], t, m, libraries[one], given[one]);
         check_answers(ADDRESSES, "a match vector");
         IN_TURNS (i, one)
             ask_each(&lookup[one], t, m, libraries[one], libraries[one]->lookup, given[one]);
@@ -189,10 +191,11 @@ static void measure(void (*each)(const struct table *), const struct table *tabl
 int main(int argc, char **argv)
 {
     if (argc != 3) {
-        fprintf(stderr, "usage: before NAME one-d|list; make bench BEFORE=COMMIT runs it\n");
+        fprintf(stderr, "usage: before NAME one-d|list|parties; make bench BEFORE=COMMIT runs it\n");
         return 2;
     }
     before.one_d = strcmp(argv[2], "one-d") == 0;
+    before.one_party = strcmp(argv[2], "parties") != 0;
     printf("before: the library of %s; now: that of the tree as it stands; ratio: now over before\n", argv[1]);
     printf("nanoseconds to a call, or to an address of a list, best of %d rounds over %d addresses or %d routes\n",
            ROUNDS, ADDRESSES, TURNS);
@@ -201,6 +204,8 @@ int main(int argc, char **argv)
         printf("imported: nanoseconds to a record of so many entries, in chunks of so many bytes\n");
     if (before.replay != NULL)
         printf("replayed: nanoseconds to a route, so many to an UPDATE, in chunks of so many bytes\n");
+    if (before.one_party)
+        printf("the library before knows one party; now party 0 is measured\n");
     printf("%s\n\n", before.one_d ? "the library before takes one D for all lengths, now it is a list of 32"
                                  : "D *: each length has the D that suits its routes, else all have the same");
     printf("offered  stored  K  D E S                          before ns  now ns  ratio\n");

@@ -52,8 +52,8 @@ static void measure_vectors(const struct table *t)
 
     double hand_ns = 0, proved_ns = 0;
     for (int round = 0; round < ROUNDS; round++) {
-        ask_each(&hand_ns, t, &second, &hand, hand.match_vector, by_hand);
-        ask_each(&proved_ns, t, &second, &proved, proved.match_vector, by_proof);
+        ask_vectors(&hand_ns, t, &second, &hand, by_hand);
+        ask_vectors(&proved_ns, t, &second, &proved, by_proof);
     }
     check(memcmp(by_hand, by_proof, sizeof by_proof) == 0, "a match vector");
 

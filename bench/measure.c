@@ -38,16 +38,23 @@ static struct route {
 /* What is asked, and which of the stored routes each update is about. */
 static uint32_t addresses[ADDRESSES], turns[TURNS];
 
-/* The memory of a table, for updates and for questions. */
-#define WORDS(m) (m)->counters, (m)->bytes, (m)->slots, (m)->words
-#define BYTES(m) (m)->counters, (m)->bytes, (const uint8_t *)(m)->slots, 4 * (m)->words
+/* The memory of a table, as calls are lent it for updates and for questions. */
+#define COUNT(calls, m) ((m)->words - (size_t)(calls)->one_party)
+#define WORDS(calls, m) (m)->counters, (m)->bytes, (m)->slots, COUNT(calls, m)
+#define BYTES(calls, m) (m)->counters, (m)->bytes, (const uint8_t *)(m)->slots, 4 * COUNT(calls, m)
 
 /* A call of calls on table t: with the list of D, or with one D where a library takes that, which gateway.h has no
    type for. */
-typedef uint64_t one_d_call();
+typedef uint64_t older_call();
+#define ONE_D t->k, t->d, t->e, t->s, a, b, c
+#define LIST(m) t->k, (m)->d, (size_t)GATEWAY_LENGTHS, t->e, t->s, a, b, c
 #define CALL(calls, call, m, ...)                                                                  \
-    ((calls)->one_d ? ((one_d_call *)(call))(t->k, t->d, t->e, t->s, a, b, c, __VA_ARGS__)         \
-                    : (call)(t->k, (m)->d, GATEWAY_LENGTHS, t->e, t->s, a, b, c, __VA_ARGS__))
+    ((calls)->one_d ? ((older_call *)(call))(ONE_D, __VA_ARGS__) : (call)(LIST(m), __VA_ARGS__))
+
+/* One that names party 0 after the memory, which is WORDS or BYTES, where a library takes that. */
+#define PARTY_CALL(calls, call, m, memory, ...)                                                    \
+    ((calls)->one_party ? CALL(calls, (older_call *)(call), m, memory(calls, m), __VA_ARGS__)      \
+                        : (call)(LIST(m), memory(calls, m), 0, __VA_ARGS__))
 
 static int has_route(uint32_t many, uint32_t prefix, uint32_t length)
 {
@@ -111,6 +118,7 @@ struct memory lend_table(const struct table *t)
     m.words = gateway_slots_words(t->e, t->s);
     m.counters = lend(m.bytes);
     m.slots = lend(4 * m.words);
+    m.slots[m.words - 1] = 0; /* party 1's default, which a library up to 0.9 is not lent */
     return m;
 }
 
@@ -157,8 +165,8 @@ static uint32_t same(uint64_t one, uint64_t other)
 
 /* A call of both tables that writes, and the number it gives. */
 #define UPDATE(call, ...)                                                                          \
-    same(CALL(one, one->call, first, WORDS(first), __VA_ARGS__),                                   \
-         CALL(other, other->call, second, WORDS(second), __VA_ARGS__))
+    same(PARTY_CALL(one, one->call, first, WORDS, __VA_ARGS__),                                    \
+         PARTY_CALL(other, other->call, second, WORDS, __VA_ARGS__))
 
 /* Some routes are withdrawn and added again, the others replaced, and all are changed, as in a table that has
    been used. Tables of as many routes are offered the same ones. */
@@ -167,8 +175,8 @@ uint32_t fill(const struct table *t, const struct calls *one, const struct memor
 {
     random_state = t->routes;
     make_routes(t->routes);
-    check(same(CALL(one, one->clear, first, WORDS(first)), CALL(other, other->clear, second, WORDS(second))) ==
-              GATEWAY_OK,
+    check(same(CALL(one, one->clear, first, WORDS(one, first)),
+               CALL(other, other->clear, second, WORDS(other, second))) == GATEWAY_OK,
           "clear");
     for (uint32_t i = 0; i < t->routes; i++)
         UPDATE(add, routes[i].prefix, routes[i].length, 0);
@@ -210,7 +218,16 @@ void ask_each(double *best, const struct table *t, const struct memory *m, const
 {
     double start = nanoseconds();
     for (size_t i = 0; i < ADDRESSES; i++)
-        given[i] = CALL(calls, call, m, BYTES(m), addresses[i]);
+        given[i] = PARTY_CALL(calls, call, m, BYTES, addresses[i]);
+    keep_best(best, start, ADDRESSES);
+}
+
+void ask_vectors(double *best, const struct table *t, const struct memory *m, const struct calls *calls,
+                 answers given)
+{
+    double start = nanoseconds();
+    for (size_t i = 0; i < ADDRESSES; i++)
+        given[i] = CALL(calls, calls->match_vector, m, BYTES(calls, m), addresses[i]);
     keep_best(best, start, ADDRESSES);
 }
 
@@ -221,8 +238,8 @@ void ask_lists(double *best, const struct table *t, const struct memory *m, cons
     memset(given, 0xa5, sizeof(results));
     double start = nanoseconds();
     for (size_t i = 0; i < ADDRESSES; i += many)
-        refused |= CALL(calls, calls->lookup_list, m, BYTES(m), (const uint8_t *)&addresses[i],
-                        many * sizeof addresses[0], (uint8_t *)&given[i], many * sizeof given[0]);
+        refused |= PARTY_CALL(calls, calls->lookup_list, m, BYTES, (const uint8_t *)&addresses[i],
+                              many * sizeof addresses[0], (uint8_t *)&given[i], many * sizeof given[0]);
     keep_best(best, start, ADDRESSES);
     check(refused == 0, "a list");
 }
@@ -233,8 +250,8 @@ void withdraw_and_add(double *best, const struct table *t, const struct memory *
     double start = nanoseconds();
     for (size_t i = 0; i < TURNS; i++) {
         const struct route *r = &stored[turns[i]];
-        given[2 * i] = CALL(calls, calls->withdraw, m, WORDS(m), r->prefix, r->length);
-        given[2 * i + 1] = CALL(calls, calls->add, m, WORDS(m), r->prefix, r->length, r->hop);
+        given[2 * i] = PARTY_CALL(calls, calls->withdraw, m, WORDS, r->prefix, r->length);
+        given[2 * i + 1] = PARTY_CALL(calls, calls->add, m, WORDS, r->prefix, r->length, r->hop);
     }
     keep_best(best, start, 2 * TURNS);
 }
@@ -246,7 +263,7 @@ void replace(double *best, const struct table *t, const struct memory *m, const 
     double start = nanoseconds();
     for (uint32_t i = 0; i < TURNS; i++) {
         const struct route *r = &stored[turns[i]];
-        given[i] = CALL(calls, calls->add, m, WORDS(m), r->prefix, r->length, (r->hop + 1 + i) % 65536);
+        given[i] = PARTY_CALL(calls, calls->add, m, WORDS, r->prefix, r->length, (r->hop + 1 + i) % 65536);
     }
     keep_best(best, start, TURNS);
     for (size_t i = 0; i < TURNS; i++)
@@ -352,8 +369,8 @@ double tell(enum telling telling, const struct table *t, const struct memory *m,
     const struct stream *s = &streams[telling];
     double start = nanoseconds();
     for (size_t i = 0; i < s->messages; i++)
-        given[i] = CALL(calls, calls->update, m, WORDS(m), s->bytes + s->start[i], s->start[i + 1] - s->start[i],
-                        next_hops, (size_t)HOPS);
+        given[i] = PARTY_CALL(calls, calls->update, m, WORDS, s->bytes + s->start[i],
+                              s->start[i + 1] - s->start[i], next_hops, (size_t)HOPS);
     return nanoseconds() - start;
 }
 
@@ -443,12 +460,12 @@ void import_each(double *best, const struct table *t, const struct memory *m, co
     const int times = dump.size / chunk > MANY_CHUNKS ? 1 : TIMES_IMPORTED;
     for (int i = 0; i < times; i++) {
         uint32_t counted[3] = {0, 0, 0};
-        uint64_t refused = CALL(calls, calls->clear, m, WORDS(m));
+        uint64_t refused = CALL(calls, calls->clear, m, WORDS(calls, m));
         memset(stream.words, 0, sizeof stream.words);
         double start = nanoseconds();
         for (size_t at = 0; at < dump.size; at += chunk)
-            refused |= CALL(calls, call, m, WORDS(m), next_hops, (size_t)HOPS, counted, stream.words, stream.room,
-                            dump.bytes + at, dump.size - at < chunk ? dump.size - at : chunk);
+            refused |= PARTY_CALL(calls, call, m, WORDS, next_hops, (size_t)HOPS, counted, stream.words, stream.room,
+                                  dump.bytes + at, dump.size - at < chunk ? dump.size - at : chunk);
         keep_best(best, start, 1);
         refused |= calls->end_stream(stream.words);
         check(refused == 0, "an import");
@@ -491,8 +508,8 @@ void replay_each(double *best, const struct table *t, const struct memory *m, co
         memset(stream.words, 0, sizeof stream.words);
         double start = nanoseconds();
         for (size_t at = 0; at < dump.size; at += chunk)
-            refused |= CALL(calls, call, m, WORDS(m), next_hops, (size_t)HOPS, tally, stream.words, stream.room,
-                            dump.bytes + at, dump.size - at < chunk ? dump.size - at : chunk);
+            refused |= PARTY_CALL(calls, call, m, WORDS, next_hops, (size_t)HOPS, tally, stream.words, stream.room,
+                                  dump.bytes + at, dump.size - at < chunk ? dump.size - at : chunk);
         keep_best(best, start, 1);
         refused |= calls->end_stream(stream.words);
         check(refused == 0 && tally[0] == tally[1] && tally[2] == DAY_ROUTES, "a replay");

@@ -1,6 +1,6 @@
 /*
  * What the programs that measure share: the calls of two are given the same routes and addresses, which a seed
- * fixes, on memory of the same contents, and their answers are compared.
+ * fixes, on memory of the same contents, and their answers are compared. All are party 0's.
  */
 #ifndef MEASURE_H
 #define MEASURE_H
@@ -64,11 +64,13 @@ void take_back(const struct memory *m);
 uint32_t fill(const struct table *t, const struct calls *one, const struct memory *first, const struct calls *other,
               const struct memory *second);
 
-/* These keep the best nanoseconds a call so far, in *best: all addresses by single calls of one of the questions,
-   which takes its settings as calls do; all of them by lists of so many, which must divide them, to an address;
-   each route withdrawn and added again; and each added with another hop than it has. */
+/* These keep the best nanoseconds a call so far, in *best: all addresses by single calls of a lookup, which takes what
+   calls do; all of them by match vectors; by lists of so many, which must divide them, to an address; each route
+   withdrawn and added again; and each added with another hop than it has. */
 void ask_each(double *best, const struct table *t, const struct memory *m, const struct calls *calls,
               __typeof__(gateway_lookup) *call, answers given);
+void ask_vectors(double *best, const struct table *t, const struct memory *m, const struct calls *calls,
+                 answers given);
 void ask_lists(double *best, const struct table *t, const struct memory *m, const struct calls *calls, size_t many,
                results given);
 void withdraw_and_add(double *best, const struct table *t, const struct memory *m, const struct calls *calls,

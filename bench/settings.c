@@ -248,7 +248,7 @@ static uint32_t listed_counters_bytes(const uint8_t d[LENGTHS])
 
 static uint32_t slots_bytes(const struct settings *t)
 {
-    return 4 * (((uint32_t)64 << t->e) * t->s + 1);
+    return 4 * (((uint32_t)64 << t->e) * t->s + 2);
 }
 
 static void print_number(uint32_t number)

@@ -26,9 +26,21 @@ static size_t first_slot(const struct settings *t, uint32_t length, uint32_t p)
     return ((((size_t)length - 1) << t->e) + bucket) * t->s;
 }
 
+/* A party's mark is one of 65,536, one for each hop: party 0's begin with 1, and party 1's follow. */
+static uint32_t mark_of(uint32_t party, uint32_t hop)
+{
+    return 65536 * party + 1 + hop;
+}
+
+static int own(uint32_t party, uint32_t mark)
+{
+    return mark - mark_of(party, 0) < 65536;
+}
+
+/* Whether a mark is either party's. */
 static int occupied(uint32_t mark)
 {
-    return mark - 1 < 65536;
+    return mark - 1 < 2 * 65536;
 }
 
 /* A word that may lie at any address. */
@@ -59,9 +71,15 @@ static uint64_t refuse_memory(const struct settings *t, size_t counters_bytes, s
     size_t counters = counters_of(t->d);
     if (counters == 0)
         return 1;
-    if (counters_bytes != counters || slots_words != ((size_t)64 << t->e) * t->s + 1)
+    if (counters_bytes != counters || slots_words != ((size_t)64 << t->e) * t->s + 2)
         return 2;
     return 0;
+}
+
+static uint64_t refuse_party(const struct settings *t, size_t counters_bytes, size_t slots_words, uint32_t party)
+{
+    uint64_t refusal = refuse_memory(t, counters_bytes, slots_words);
+    return refusal == 0 && party > 1 ? 15 : refusal;
 }
 
 static uint64_t refuse_bytes(const struct settings *t, size_t counters_bytes, size_t slots_bytes)
@@ -70,10 +88,16 @@ static uint64_t refuse_bytes(const struct settings *t, size_t counters_bytes, si
     return refusal == 0 && slots_bytes % 4 != 0 ? 2 : refusal;
 }
 
-static uint64_t refuse_route(const struct settings *t, size_t counters_bytes, size_t slots_words,
-                             uint32_t p, uint32_t length)
+static uint64_t refuse_question(const struct settings *t, size_t counters_bytes, size_t slots_bytes, uint32_t party)
 {
-    uint64_t refusal = refuse_memory(t, counters_bytes, slots_words);
+    uint64_t refusal = refuse_bytes(t, counters_bytes, slots_bytes);
+    return refusal == 0 && party > 1 ? 15 : refusal;
+}
+
+static uint64_t refuse_route(const struct settings *t, size_t counters_bytes, size_t slots_words,
+                             uint32_t party, uint32_t p, uint32_t length)
+{
+    uint64_t refusal = refuse_party(t, counters_bytes, slots_words, party);
     if (refusal != 0)
         return refusal;
     if (length > 32)
@@ -83,18 +107,19 @@ static uint64_t refuse_route(const struct settings *t, size_t counters_bytes, si
 
 /* The slot that an update is about: none is one past the bucket's last. */
 struct found {
-    size_t held;   /* the lowest that is occupied and holds p */
+    size_t held;   /* the lowest that has a mark of the party's and holds p */
     size_t vacant; /* the lowest free one before it */
     size_t none;
 };
 
 /* One pass over p's bucket. */
-static struct found search(const struct settings *t, const uint32_t *slots, uint32_t length, uint32_t p)
+static struct found search(const struct settings *t, const uint32_t *slots, uint32_t party, uint32_t length,
+                           uint32_t p)
 {
     size_t first = first_slot(t, length, p), end = first + t->s;
     struct found found = {end, end, end};
     for (size_t n = first; n < end; n++) {
-        if (slots[2 * n] == p && occupied(slots[2 * n + 1])) {
+        if (slots[2 * n] == p && own(party, slots[2 * n + 1])) {
             found.held = n;
             break;
         }
@@ -147,18 +172,24 @@ uint64_t hand_clear(uint32_t k, const uint8_t *d, size_t d_count, uint32_t e, ui
     return 0;
 }
 
+/* The word of a party's default. */
+static size_t default_word(size_t slots_words, uint32_t party)
+{
+    return slots_words - 2 + party;
+}
+
 /* An add and a withdrawal whose arguments are in their ranges; the answer is the number. */
 static inline uint64_t add(const struct settings *t, uint8_t *counters, size_t counters_bytes,
-                           uint32_t *slots, size_t slots_words, uint32_t prefix, uint32_t length,
-                           uint32_t hop)
+                           uint32_t *slots, size_t slots_words, uint32_t party, uint32_t prefix,
+                           uint32_t length, uint32_t hop)
 {
     if (length == 0) {
-        slots[slots_words - 1] = hop + 1;
+        slots[default_word(slots_words, party)] = mark_of(party, hop);
         return 0;
     }
-    struct found found = search(t, slots, length, prefix);
+    struct found found = search(t, slots, party, length, prefix);
     if (found.held != found.none) {
-        slots[2 * found.held + 1] = hop + 1;
+        slots[2 * found.held + 1] = mark_of(party, hop);
         return 0;
     }
     if (found.vacant == found.none)
@@ -169,7 +200,7 @@ static inline uint64_t add(const struct settings *t, uint8_t *counters, size_t c
         if (counters[place[i]] + hits(place, many, place[i]) > 15)
             return 9;
     slots[2 * found.vacant] = prefix;
-    slots[2 * found.vacant + 1] = hop + 1;
+    slots[2 * found.vacant + 1] = mark_of(party, hop);
     for (uint32_t i = 0; i < many; i++)
         counters[place[i]]++;
     return 0;
@@ -183,22 +214,23 @@ static inline int odd(uint32_t prefix, uint32_t length)
 
 /* An add of a route that was announced. */
 static inline uint64_t add_announced(const struct settings *t, uint8_t *counters, size_t counters_bytes,
-                                     uint32_t *slots, size_t slots_words, uint32_t prefix, uint32_t length,
-                                     uint32_t hop)
+                                     uint32_t *slots, size_t slots_words, uint32_t party, uint32_t prefix,
+                                     uint32_t length, uint32_t hop)
 {
-    return odd(prefix, length) ? 11 : add(t, counters, counters_bytes, slots, slots_words, prefix, length, hop);
+    return odd(prefix, length) ? 11 : add(t, counters, counters_bytes, slots, slots_words, party, prefix, length, hop);
 }
 
 static inline uint64_t withdraw(const struct settings *t, uint8_t *counters, size_t counters_bytes,
-                                uint32_t *slots, size_t slots_words, uint32_t prefix, uint32_t length)
+                                uint32_t *slots, size_t slots_words, uint32_t party, uint32_t prefix,
+                                uint32_t length)
 {
     if (length == 0) {
-        if (!occupied(slots[slots_words - 1]))
+        if (!own(party, slots[default_word(slots_words, party)]))
             return 7;
-        slots[slots_words - 1] = 0;
+        slots[default_word(slots_words, party)] = 0;
         return 0;
     }
-    struct found found = search(t, slots, length, prefix);
+    struct found found = search(t, slots, party, length, prefix);
     if (found.held == found.none)
         return 7;
     size_t place[8];
@@ -215,52 +247,54 @@ static inline uint64_t withdraw(const struct settings *t, uint8_t *counters, siz
 
 uint64_t hand_add(uint32_t k, const uint8_t *d, size_t d_count, uint32_t e, uint32_t s, uint32_t a,
                   uint32_t b, uint32_t c, uint8_t *counters, size_t counters_bytes, uint32_t *slots,
-                  size_t slots_words, uint32_t prefix, uint32_t length, uint32_t hop)
+                  size_t slots_words, uint32_t party, uint32_t prefix, uint32_t length,
+                  uint32_t hop)
 {
     const struct settings t = {k, d, d_count, e, s, a, b, c};
-    uint64_t refusal = refuse_route(&t, counters_bytes, slots_words, prefix, length);
+    uint64_t refusal = refuse_route(&t, counters_bytes, slots_words, party, prefix, length);
     if (refusal == 0 && odd(prefix, length))
         refusal = 11;
     if (refusal == 0 && hop > 65535)
         refusal = 5;
     if (refusal == 0)
-        refusal = add(&t, counters, counters_bytes, slots, slots_words, prefix, length, hop);
+        refusal = add(&t, counters, counters_bytes, slots, slots_words, party, prefix, length, hop);
     return REFUSED(refusal);
 }
 
 uint64_t hand_withdraw(uint32_t k, const uint8_t *d, size_t d_count, uint32_t e, uint32_t s,
                        uint32_t a, uint32_t b, uint32_t c, uint8_t *counters, size_t counters_bytes,
-                       uint32_t *slots, size_t slots_words, uint32_t prefix, uint32_t length)
+                       uint32_t *slots, size_t slots_words, uint32_t party, uint32_t prefix,
+                       uint32_t length)
 {
     const struct settings t = {k, d, d_count, e, s, a, b, c};
-    uint64_t refusal = refuse_route(&t, counters_bytes, slots_words, prefix, length);
+    uint64_t refusal = refuse_route(&t, counters_bytes, slots_words, party, prefix, length);
     if (refusal == 0)
-        refusal = withdraw(&t, counters, counters_bytes, slots, slots_words, prefix, length);
+        refusal = withdraw(&t, counters, counters_bytes, slots, slots_words, party, prefix, length);
     return REFUSED(refusal);
 }
 
 uint64_t hand_change(uint32_t k, const uint8_t *d, size_t d_count, uint32_t e, uint32_t s,
                      uint32_t a, uint32_t b, uint32_t c, uint8_t *counters, size_t counters_bytes,
-                     uint32_t *slots, size_t slots_words, uint32_t prefix, uint32_t length,
-                     uint32_t hop)
+                     uint32_t *slots, size_t slots_words, uint32_t party, uint32_t prefix,
+                     uint32_t length, uint32_t hop)
 {
     (void)counters;
     const struct settings t = {k, d, d_count, e, s, a, b, c};
-    uint64_t refusal = refuse_route(&t, counters_bytes, slots_words, prefix, length);
+    uint64_t refusal = refuse_route(&t, counters_bytes, slots_words, party, prefix, length);
     if (refusal != 0)
         return REFUSED(refusal);
     if (hop > 65535)
         return REFUSED(5);
     if (length == 0) {
-        if (!occupied(slots[slots_words - 1]))
+        if (!own(party, slots[default_word(slots_words, party)]))
             return REFUSED(7);
-        slots[slots_words - 1] = hop + 1;
+        slots[default_word(slots_words, party)] = mark_of(party, hop);
         return 0;
     }
-    struct found found = search(&t, slots, length, prefix);
+    struct found found = search(&t, slots, party, length, prefix);
     if (found.held == found.none)
         return REFUSED(7);
-    slots[2 * found.held + 1] = hop + 1;
+    slots[2 * found.held + 1] = mark_of(party, hop);
     return 0;
 }
 
@@ -301,26 +335,28 @@ static inline int claims(const struct settings *t, const uint8_t *filter, uint32
 VECTOR_OF(vector_of, "GCC unroll 1")
 VECTOR_OF(vector_unrolled, "GCC unroll 32")
 
-/* The mark of the lowest slot that is occupied and holds p, or 0. */
-static inline uint32_t probe(const struct settings *t, const uint8_t *slots, uint32_t length,
-                             uint32_t p)
+/* The mark of the lowest slot that is the party's and holds p, or 0. */
+static inline uint32_t probe(const struct settings *t, const uint8_t *slots, uint32_t party,
+                             uint32_t length, uint32_t p)
 {
     size_t first = first_slot(t, length, p);
     for (size_t n = first; n < first + t->s; n++)
-        if (word(slots, 2 * n) == p && occupied(word(slots, 2 * n + 1)))
+        if (word(slots, 2 * n) == p && own(party, word(slots, 2 * n + 1)))
             return word(slots, 2 * n + 1);
     return 0;
 }
 
+/* The hop is the mark's place among the marks of its party. */
 static inline uint64_t answer(uint32_t mark, uint32_t length, uint32_t probes)
 {
-    return (uint64_t)1 << 40 | (uint64_t)(mark - 1) << 16 | length << 8 | probes;
+    return (uint64_t)1 << 40 | (uint64_t)((mark - 1) % 65536) << 16 | length << 8 | probes;
 }
 
-static inline uint64_t default_answer(const uint8_t *slots, size_t slots_bytes, uint32_t probes)
+static inline uint64_t default_answer(const uint8_t *slots, size_t slots_bytes, uint32_t party,
+                                      uint32_t probes)
 {
-    uint32_t mark = word(slots, slots_bytes / 4 - 1);
-    return occupied(mark) ? answer(mark, 0, probes) : probes;
+    uint32_t mark = word(slots, default_word(slots_bytes / 4, party));
+    return own(party, mark) ? answer(mark, 0, probes) : probes;
 }
 
 uint64_t hand_match_vector(uint32_t k, const uint8_t *d, size_t d_count, uint32_t e, uint32_t s,
@@ -336,59 +372,60 @@ uint64_t hand_match_vector(uint32_t k, const uint8_t *d, size_t d_count, uint32_
 
 /* What the buckets of the set bits answer, in slots of the right size. */
 static inline uint64_t lookup(const struct settings *t, const uint8_t *slots, size_t slots_bytes,
-                              uint32_t address, uint32_t vector)
+                              uint32_t party, uint32_t address, uint32_t vector)
 {
     uint32_t probes = 0;
     for (uint32_t left = vector; left != 0;) {
         uint32_t length = 32 - (uint32_t)__builtin_clz(left);
         probes++;
-        uint32_t mark = probe(t, slots, length, prefix_of(length, address));
+        uint32_t mark = probe(t, slots, party, length, prefix_of(length, address));
         if (mark != 0)
             return answer(mark, length, probes);
         left ^= 1u << (length - 1);
     }
-    return default_answer(slots, slots_bytes, probes);
+    return default_answer(slots, slots_bytes, party, probes);
 }
 
 uint64_t hand_lookup(uint32_t k, const uint8_t *d, size_t d_count, uint32_t e, uint32_t s,
                      uint32_t a, uint32_t b, uint32_t c, const uint8_t *counters,
                      size_t counters_bytes, const uint8_t *slots, size_t slots_bytes,
-                     uint32_t address)
+                     uint32_t party, uint32_t address)
 {
     const struct settings t = {k, d, d_count, e, s, a, b, c};
-    uint64_t refusal = refuse_bytes(&t, counters_bytes, slots_bytes);
+    uint64_t refusal = refuse_question(&t, counters_bytes, slots_bytes, party);
     if (refusal != 0)
         return REFUSED(refusal);
-    return lookup(&t, slots, slots_bytes, address, vector_of(&t, counters + counters_bytes, address));
+    return lookup(&t, slots, slots_bytes, party, address, vector_of(&t, counters + counters_bytes, address));
 }
 
 uint64_t hand_lookup_unrolled(uint32_t k, const uint8_t *d, size_t d_count, uint32_t e, uint32_t s,
                               uint32_t a, uint32_t b, uint32_t c, const uint8_t *counters,
                               size_t counters_bytes, const uint8_t *slots, size_t slots_bytes,
-                              uint32_t address)
+                              uint32_t party, uint32_t address)
 {
     const struct settings t = {k, d, d_count, e, s, a, b, c};
-    uint64_t refusal = refuse_bytes(&t, counters_bytes, slots_bytes);
+    uint64_t refusal = refuse_question(&t, counters_bytes, slots_bytes, party);
     if (refusal != 0)
         return REFUSED(refusal);
-    return lookup(&t, slots, slots_bytes, address, vector_unrolled(&t, counters + counters_bytes, address));
+    return lookup(&t, slots, slots_bytes, party, address, vector_unrolled(&t, counters + counters_bytes, address));
 }
 
 uint64_t hand_lookup_list(uint32_t k, const uint8_t *d, size_t d_count, uint32_t e, uint32_t s,
                           uint32_t a, uint32_t b, uint32_t c, const uint8_t *counters,
                           size_t counters_bytes, const uint8_t *slots, size_t slots_bytes,
-                          const uint8_t *addresses, size_t addresses_bytes, uint8_t *results,
-                          size_t results_bytes)
+                          uint32_t party, const uint8_t *addresses, size_t addresses_bytes,
+                          uint8_t *results, size_t results_bytes)
 {
     const struct settings t = {k, d, d_count, e, s, a, b, c};
-    uint64_t refusal = refuse_bytes(&t, counters_bytes, slots_bytes);
+    uint64_t refusal = refuse_question(&t, counters_bytes, slots_bytes, party);
     if (refusal != 0)
         return REFUSED(refusal);
     if (addresses_bytes % 4 != 0 || results_bytes % 4 != 0 || results_bytes / 4 != addresses_bytes)
         return REFUSED(18);
     for (size_t i = 0; i < addresses_bytes / 4; i++) {
         uint32_t address = word(addresses, i);
-        uint64_t given = lookup(&t, slots, slots_bytes, address, vector_of(&t, counters + counters_bytes, address));
+        uint32_t vector = vector_of(&t, counters + counters_bytes, address);
+        uint64_t given = lookup(&t, slots, slots_bytes, party, address, vector);
         const uint32_t result[4] = {(uint32_t)(given >> 40), (uint32_t)(given >> 16) & 0xffff,
                                     (uint32_t)(given >> 8) & 0xff, (uint32_t)given & 0xff};
         memcpy(results + 16 * i, result, sizeof result);
@@ -399,10 +436,10 @@ uint64_t hand_lookup_list(uint32_t k, const uint8_t *d, size_t d_count, uint32_t
 uint64_t hand_lookup_in_turn(uint32_t k, const uint8_t *d, size_t d_count, uint32_t e, uint32_t s,
                              uint32_t a, uint32_t b, uint32_t c, const uint8_t *counters,
                              size_t counters_bytes, const uint8_t *slots, size_t slots_bytes,
-                             uint32_t address)
+                             uint32_t party, uint32_t address)
 {
     const struct settings t = {k, d, d_count, e, s, a, b, c};
-    uint64_t refusal = refuse_bytes(&t, counters_bytes, slots_bytes);
+    uint64_t refusal = refuse_question(&t, counters_bytes, slots_bytes, party);
     if (refusal != 0)
         return REFUSED(refusal);
     uint32_t probes = 0, p = address, bit = 1;
@@ -411,14 +448,14 @@ uint64_t hand_lookup_in_turn(uint32_t k, const uint8_t *d, size_t d_count, uint3
         filter -= (size_t)1 << d[length - 1];
         if (claims(&t, filter, d[length - 1], p)) {
             probes++;
-            uint32_t mark = probe(&t, slots, length, p);
+            uint32_t mark = probe(&t, slots, party, length, p);
             if (mark != 0)
                 return answer(mark, length, probes);
         }
         p &= ~bit;
         bit <<= 1;
     }
-    return default_answer(slots, slots_bytes, probes);
+    return default_answer(slots, slots_bytes, party, probes);
 }
 
 /* Where a message's prefixes lie, from the marker's first byte on, and the address of its NEXT_HOP. */
@@ -514,9 +551,9 @@ static inline const uint8_t *take_prefix(const uint8_t *at, uint32_t *prefix, ui
 /* A message on a table whose settings and sizes are right. What is refused under number n is also counted at place n of
    under, unless that is NULL. */
 static inline uint64_t update(const struct settings *t, uint8_t *counters, size_t counters_bytes,
-                              uint32_t *slots, size_t slots_words, const uint8_t *message,
-                              size_t message_bytes, const uint32_t *hops, size_t hops_words,
-                              uint32_t *under)
+                              uint32_t *slots, size_t slots_words, uint32_t party,
+                              const uint8_t *message, size_t message_bytes, const uint32_t *hops,
+                              size_t hops_words, uint32_t *under)
 {
     struct parts parts;
     uint32_t hop = 0, prefix, length;
@@ -530,7 +567,7 @@ static inline uint64_t update(const struct settings *t, uint8_t *counters, size_
     }
     for (const uint8_t *at = message + 21; at < message + parts.withdrawn_to;) {
         at = take_prefix(at, &prefix, &length);
-        refusal = withdraw(t, counters, counters_bytes, slots, slots_words, prefix, length);
+        refusal = withdraw(t, counters, counters_bytes, slots, slots_words, party, prefix, length);
         accepted += refusal == 0;
         refused += refusal != 0;
         if (under != NULL && refusal != 0)
@@ -538,7 +575,7 @@ static inline uint64_t update(const struct settings *t, uint8_t *counters, size_
     }
     for (const uint8_t *at = message + parts.announced_from; at < message + message_bytes;) {
         at = take_prefix(at, &prefix, &length);
-        refusal = add_announced(t, counters, counters_bytes, slots, slots_words, prefix, length, hop);
+        refusal = add_announced(t, counters, counters_bytes, slots, slots_words, party, prefix, length, hop);
         accepted += refusal == 0;
         refused += refusal != 0;
         if (under != NULL && refusal != 0)
@@ -549,14 +586,15 @@ static inline uint64_t update(const struct settings *t, uint8_t *counters, size_
 
 uint64_t hand_update(uint32_t k, const uint8_t *d, size_t d_count, uint32_t e, uint32_t s,
                      uint32_t a, uint32_t b, uint32_t c, uint8_t *counters, size_t counters_bytes,
-                     uint32_t *slots, size_t slots_words, const uint8_t *message,
+                     uint32_t *slots, size_t slots_words, uint32_t party, const uint8_t *message,
                      size_t message_bytes, const uint32_t *hops, size_t hops_words)
 {
     const struct settings t = {k, d, d_count, e, s, a, b, c};
-    uint64_t refusal = refuse_memory(&t, counters_bytes, slots_words);
+    uint64_t refusal = refuse_party(&t, counters_bytes, slots_words, party);
     if (refusal != 0)
         return REFUSED(refusal);
-    return update(&t, counters, counters_bytes, slots, slots_words, message, message_bytes, hops, hops_words, NULL);
+    return update(&t, counters, counters_bytes, slots, slots_words, party, message, message_bytes, hops, hops_words,
+                  NULL);
 }
 
 uint64_t hand_write_withdrawal(uint32_t prefix, uint32_t length, uint8_t *room, size_t room_bytes)
@@ -602,8 +640,8 @@ static inline size_t body_size(const uint8_t *header)
 
 /* Checks the record of a route, and adds it; 0 if it is not well-formed. */
 static inline int do_route(const struct settings *t, uint8_t *counters, size_t counters_bytes,
-                           uint32_t *slots, size_t slots_words, const uint32_t *hops, size_t hops_words,
-                           uint32_t *counts, const uint8_t *record, size_t size)
+                           uint32_t *slots, size_t slots_words, uint32_t party, const uint32_t *hops,
+                           size_t hops_words, uint32_t *counts, const uint8_t *record, size_t size)
 {
     const uint8_t *body = record + HEADER, *end = record + size, *at;
     uint32_t prefix, length, hop = NO_PLACE;
@@ -628,7 +666,7 @@ static inline int do_route(const struct settings *t, uint8_t *counters, size_t c
         return 0;
     if (hop == NO_PLACE)
         counts[2]++;
-    else if (add_announced(t, counters, counters_bytes, slots, slots_words, prefix, length, hop) == 0)
+    else if (add_announced(t, counters, counters_bytes, slots, slots_words, party, prefix, length, hop) == 0)
         counts[0]++;
     else
         counts[1]++;
@@ -638,8 +676,8 @@ static inline int do_route(const struct settings *t, uint8_t *counters, size_t c
 /* Checks the record of a message, and applies it if it is an UPDATE between addresses of IPv4; 0 if it is too short, or
    its UPDATE not well-formed. The tally is records, UPDATEs, routes accepted, and those refused under each number. */
 static inline int do_message(const struct settings *t, uint8_t *counters, size_t counters_bytes,
-                             uint32_t *slots, size_t slots_words, const uint32_t *hops, size_t hops_words,
-                             uint32_t *tally, const uint8_t *record, size_t size)
+                             uint32_t *slots, size_t slots_words, uint32_t party, const uint32_t *hops,
+                             size_t hops_words, uint32_t *tally, const uint8_t *record, size_t size)
 {
     const size_t family = record[7] == 1 ? HEADER + 6 : HEADER + 10, message = family + 10;
     if (size < family + 2)
@@ -648,8 +686,8 @@ static inline int do_message(const struct settings *t, uint8_t *counters, size_t
         if (size < message + 19)
             return 0;
         if (record[message + 18] == 2) {
-            const uint64_t given = update(t, counters, counters_bytes, slots, slots_words, record + message,
-                                          size - message, hops, hops_words, tally + 3);
+            const uint64_t given = update(t, counters, counters_bytes, slots, slots_words, party,
+                                          record + message, size - message, hops, hops_words, tally + 3);
             if (given == REFUSED(12))
                 return 0;
             if (given != REFUSED(13)) {
@@ -666,9 +704,9 @@ static inline int do_message(const struct settings *t, uint8_t *counters, size_t
    copied into the room first. */
 static inline uint64_t take_chunk(enum stream what, const struct settings *t, uint8_t *counters,
                                   size_t counters_bytes, uint32_t *slots, size_t slots_words,
-                                  const uint32_t *hops, size_t hops_words, uint32_t *counts,
-                                  uint32_t words[3], uint8_t *room, const uint8_t *chunk,
-                                  size_t chunk_bytes, int in_place)
+                                  uint32_t party, const uint32_t *hops, size_t hops_words,
+                                  uint32_t *counts, uint32_t words[3], uint8_t *room,
+                                  const uint8_t *chunk, size_t chunk_bytes, int in_place)
 {
     size_t kept = words[1], left = words[2], at = 0;
     uint64_t number;
@@ -679,7 +717,7 @@ static inline uint64_t take_chunk(enum stream what, const struct settings *t, ui
     for (size_t i = 0; i < counts_of[what]; i++)
         if (counts[i] > 4000000000u)
             return REFUSED(19);
-    number = refuse_memory(t, counters_bytes, slots_words);
+    number = refuse_party(t, counters_bytes, slots_words, party);
     if (number != 0)
         return REFUSED(number);
     if (left == 0 ? kept >= HEADER : kept < HEADER || kept + left > HEADER + MOST_BODY || !is_read(what, room))
@@ -738,8 +776,8 @@ static inline uint64_t take_chunk(enum stream what, const struct settings *t, ui
             if (left != 0)
                 break;
         }
-        if (!(what == DUMP ? do_route : do_message)(t, counters, counters_bytes, slots, slots_words, hops, hops_words,
-                                                    counts, record, kept)) {
+        if (!(what == DUMP ? do_route : do_message)(t, counters, counters_bytes, slots, slots_words, party, hops,
+                                                    hops_words, counts, record, kept)) {
             number = 12;
             break;
         }
@@ -754,12 +792,13 @@ static inline uint64_t take_chunk(enum stream what, const struct settings *t, ui
 #define TAKE_CHUNK(name, what, many, in_place)                                                     \
     uint64_t name(uint32_t k, const uint8_t *d, size_t d_count, uint32_t e, uint32_t s, uint32_t a, \
                   uint32_t b, uint32_t c, uint8_t *counters, size_t counters_bytes, uint32_t *slots, \
-                  size_t slots_words, const uint32_t *hops, size_t hops_words, uint32_t counts[many], \
-                  uint32_t words[3], uint8_t room[65548], const uint8_t *chunk, size_t chunk_bytes) \
+                  size_t slots_words, uint32_t party, const uint32_t *hops, size_t hops_words,     \
+                  uint32_t counts[many], uint32_t words[3], uint8_t room[65548], const uint8_t *chunk, \
+                  size_t chunk_bytes)                                                              \
     {                                                                                              \
         const struct settings t = {k, d, d_count, e, s, a, b, c};                                  \
-        return take_chunk(what, &t, counters, counters_bytes, slots, slots_words, hops, hops_words, counts, \
-                          words, room, chunk, chunk_bytes, in_place);                              \
+        return take_chunk(what, &t, counters, counters_bytes, slots, slots_words, party, hops, hops_words, \
+                          counts, words, room, chunk, chunk_bytes, in_place);                      \
     }
 
 TAKE_CHUNK(hand_import, DUMP, 3, 0)

@@ -16,7 +16,7 @@
  * neighbour can read. A line that is refused, or is none of these, is reported on standard error and passed over; the
  * exit status is then 1.
  */
-#include "text.h"
+#include "lines.h"
 
 #include <gateway.h>
 
@@ -45,57 +45,14 @@ static struct gateway_table table = {
     .slots_words = sizeof slots / sizeof slots[0],
 };
 
-/* The next hops that can be given, a line's characters that are kept, and those of them that are shown. */
-enum { MOST_HOPS = 256, LINE = 3 * GATEWAY_MESSAGE_BYTES, SHOWN = 64 };
+/* The next hops that can be given, and a line's characters that are kept. */
+enum { MOST_HOPS = 256, LINE = 3 * GATEWAY_MESSAGE_BYTES };
 
 static uint32_t hops[MOST_HOPS];
 static size_t many_hops;
 
-static struct {
-    char text[LINE + 1];
-    size_t length; /* how many characters it has, also where not all are kept */
-    unsigned long number;
-} line;
-
-/* Reads the next line of standard input; 0 if there is none. */
-static int read_line(void)
-{
-    int c = getchar();
-    if (c == EOF)
-        return 0;
-    line.number++;
-    for (line.length = 0; c != EOF && c != '\n'; c = getchar(), line.length++)
-        if (line.length < LINE)
-            line.text[line.length] = (char)c;
-    line.text[line.length < LINE ? line.length : LINE] = '\0';
-    return 1;
-}
-
-static int at_end(const char *at)
-{
-    return (size_t)(at - line.text) == line.length;
-}
-
-/* Says on standard error what the line is not, and up to where it might have been. */
-static int unreadable(const char *wanted, const char *at)
-{
-    fprintf(stderr, "neighbour: line %lu, character %lu: not %s: ", line.number,
-            (unsigned long)(at - line.text) + 1, wanted);
-    show_text(line.text, line.length < SHOWN ? line.length : SHOWN);
-    return 0;
-}
-
-/* Whether a call was accepted; says on standard error why it was not. */
-static int accepted(uint32_t refusal)
-{
-    if (refusal == GATEWAY_OK)
-        return 1;
-    fprintf(stderr, "neighbour: ");
-    if (line.number > 0)
-        fprintf(stderr, "line %lu: ", line.number);
-    fprintf(stderr, "refused, number %u: %s\n", (unsigned)refusal, gateway_refusal_text(refusal));
-    return 0;
-}
+static char text[LINE + 1];
+static struct line line = {.program = "neighbour", .text = text, .most = LINE};
 
 static int read_digit(const char **text, unsigned *number)
 {
@@ -112,16 +69,16 @@ static int do_message(const char *at)
 {
     static uint8_t message[LINE / 2];
     size_t size = 0;
-    while (!at_end(at)) {
+    while (!at_end(&line, at)) {
         unsigned byte = 0;
         if (skip(&at, ' '))
             continue;
         if (!read_digit(&at, &byte) || !read_digit(&at, &byte))
-            return unreadable("a message in hexadecimal digits, find ADDRESS or withdrawal PREFIX", at);
+            return unreadable(&line, "a message in hexadecimal digits, find ADDRESS or withdrawal PREFIX", at);
         message[size++] = (uint8_t)byte;
     }
     const struct gateway_report report = gateway_table_update(&table, message, size, hops, many_hops);
-    if (!accepted(report.refusal))
+    if (!accepted(&line, report.refusal))
         return 0;
     printf("%u accepted, %u refused\n", (unsigned)report.accepted, (unsigned)report.refused);
     return 1;
@@ -130,10 +87,10 @@ static int do_message(const char *at)
 static int find(const char *at)
 {
     uint32_t address;
-    if (!read_address(&at, &address) || !at_end(at))
-        return unreadable("an address (find 192.0.2.7 has one)", at);
+    if (!read_address(&at, &address) || !at_end(&line, at))
+        return unreadable(&line, "an address (find 192.0.2.7 has one)", at);
     const struct gateway_answer answer = gateway_table_lookup(&table, address);
-    if (!accepted(answer.refusal))
+    if (!accepted(&line, answer.refusal))
         return 0;
     /* Only messages filled the table, so that each of its hops is a place in the list. */
     print_answer(address, answer, hops);
@@ -144,10 +101,10 @@ static int write_withdrawal(const char *at)
 {
     uint8_t message[GATEWAY_WITHDRAWAL_BYTES(32)];
     uint32_t prefix, length;
-    if (!read_prefix(&at, &prefix, &length) || !at_end(at))
-        return unreadable("a prefix (withdrawal 10.0.0.0/8 has one)", at);
+    if (!read_prefix(&at, &prefix, &length) || !at_end(&line, at))
+        return unreadable(&line, "a prefix (withdrawal 10.0.0.0/8 has one)", at);
     const size_t size = gateway_withdrawal_bytes(length);
-    if (!accepted(gateway_withdrawal_message(prefix, length, message, size)))
+    if (!accepted(&line, gateway_withdrawal_message(prefix, length, message, size)))
         return 0;
     for (size_t i = 0; i < size; i++)
         printf("%02x", (unsigned)message[i]);
@@ -159,7 +116,7 @@ static int do_line(void)
 {
     static const char find_word[] = "find ", withdrawal_word[] = "withdrawal ";
     if (line.length > LINE)
-        return unreadable("short enough for a message", line.text + LINE);
+        return unreadable(&line, "short enough for a message", line.text + LINE);
     if (strncmp(line.text, find_word, strlen(find_word)) == 0)
         return find(line.text + strlen(find_word));
     if (strncmp(line.text, withdrawal_word, strlen(withdrawal_word)) == 0)
@@ -169,8 +126,6 @@ static int do_line(void)
 
 int main(int argc, char **argv)
 {
-    int status = EXIT_SUCCESS;
-
     if (!take_filters("neighbour", &argc, &argv, &table))
         return EXIT_FAILURE;
     if (argc - 1 > MOST_HOPS) {
@@ -185,21 +140,7 @@ int main(int argc, char **argv)
             return EXIT_FAILURE;
         }
     }
-    if (!accepted(gateway_table_clear(&table)))
+    if (!accepted(&line, gateway_table_clear(&table)))
         return EXIT_FAILURE;
-
-    while (read_line()) {
-        if (!do_line())
-            status = EXIT_FAILURE;
-        fflush(stdout);
-    }
-    if (ferror(stdin)) {
-        fprintf(stderr, "neighbour: standard input cannot be read\n");
-        status = EXIT_FAILURE;
-    }
-    if (ferror(stdout)) {
-        fprintf(stderr, "neighbour: standard output cannot be written\n");
-        status = EXIT_FAILURE;
-    }
-    return status;
+    return do_lines(&line, do_line);
 }

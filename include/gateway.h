@@ -17,7 +17,7 @@
  *         .slots = slots, .slots_words = sizeof slots / sizeof slots[0],
  *     };
  *
- * (Before C++20 the fields have no names in an initializer: set them one by one, d by
+ * (Before C++20 the fields have no names in an initializer: begin with zeros and set them one by one, d by
  * gateway_settings_fill, so that a later field changes nothing.) Clear it first, and look at what each call
  * answers:
  *
@@ -59,6 +59,28 @@
  * tally then has how many records were seen, how many UPDATEs were applied, how many routes were accepted, and how
  * many were refused for what reason: tally.refused[GATEWAY_BUCKET_FULL] for a full bucket.
  *
+ * Two parties can share one table: a library, say, and the school next door. The table above names no party, so that
+ * it is party 0's: let that be the library. The school is party 1. It has a second struct with the same settings and
+ * the same memory:
+ *
+ *     struct gateway_table school = table;
+ *     school.party = 1;
+ *
+ *     refusal = gateway_table_add(&school, 0x0a000000, 8, 9);
+ *
+ * Here 10.1.2.3 goes to hop 7 for the library and to hop 9 for the school. Each party finds, replaces, changes and
+ * withdraws its own routes alone. The same prefix may be stored once for each of them, and each has a default route
+ * of its own. It is proved that what a party finds depends on those of its own updates that were accepted, and on
+ * nothing that the other adds, changes or withdraws. What the two share is the memory:
+ *
+ * - The routes of both take slots and counters. So a party's add may be refused by GATEWAY_BUCKET_FULL or
+ *   GATEWAY_COUNTER_FULL because of what the other has stored.
+ * - The filters claim the prefixes of both. So the probes of a lookup and the match vector depend on both.
+ * - gateway_table_clear empties the table for both. It does not look at the party of its struct, and neither does
+ *   gateway_table_match_vector.
+ *
+ * A message, a dump and a day are applied for one party. Give each chunk of a stream the same one.
+ *
  * An address or prefix is a 32-bit number with its first octet highest: 10.0.0.0 is 0x0a000000. A
  * route is a prefix, its length (0 to 32, 0 being the default route) and its next hop (0 to 65535).
  *
@@ -68,8 +90,9 @@
  * check: each pointer must lead to as much memory as the size beside it says (beside 0 it may be NULL), the lists
  * that a call is lent must not overlap, the words of an update, of counts, of a tally and of a stream and the list
  * of next hops must be aligned as uint32_t, and a table must be asked and updated under the settings that it was
- * cleared with, each of the 32 values of d among them. Lookups may run at the same time, those of a list each into
- * results of its own; an update must run alone, and so must a message and a chunk of a dump or of a day.
+ * cleared with, each of the 32 values of d among them, by both parties. Lookups may run at the same time, those of a
+ * list each into results of its own; an update must run alone, whichever party's it is, and so must a message and a
+ * chunk of a dump or of a day.
  *
  * What is proved of these calls: whatever a program does with them after an accepted clear is a history
  * (crates/c_promises/proofs/Seat.antt), of which crates/promises/proofs/Promises.antt states every promise;
@@ -79,15 +102,16 @@
  *
  * Choosing settings. A length has 2^e buckets of s slots, and a route goes into the one bucket that
  * its prefix hashes to: once that is full a new route is refused, however empty the others are. So a
- * table takes far fewer routes than it has slots. For the most routes that any one length has:
+ * table takes far fewer routes than it has slots. For the most routes that any one length has, those of both parties
+ * together:
  *
  *     routes    k   d  e  s     bytes    tables that take them all
- *         10    4   7  3  8    20,484    all of 40,000 random ones
- *         30    4   8  5  8    73,732    all
- *         90    4  10  7  8   294,916    all
- *        200    4  11  8  8   589,828    all
- *        300    4  11  8  8   589,828    above 99.9 in 100
- *        500    3  11  8  8   589,828    95 in 100
+ *         10    4   7  3  8    20,488    all of 40,000 random ones
+ *         30    4   8  5  8    73,736    all
+ *         90    4  10  7  8   294,920    all
+ *        200    4  11  8  8   589,832    all
+ *        300    4  11  8  8   589,832    above 99.9 in 100
+ *        500    3  11  8  8   589,832    95 in 100
  *
  * The bytes are those of a table whose filters are all of one size. Nothing larger can be set: 700 routes
  * at one length are taken by every second table, and 1,000 by hardly any. docs/SETTINGS.md has the whole
@@ -137,7 +161,7 @@ extern "C" {
 #endif
 
 /* The version of this header, of its archive and of its pkg-config file; CHANGELOG.md lists the versions. */
-#define GATEWAY_VERSION "0.9.0"
+#define GATEWAY_VERSION "0.10.0"
 
 /* An answer that is not looked at is a refusal that nobody sees: the compiler warns of it. */
 #if defined(__GNUC__)
@@ -146,8 +170,8 @@ extern "C" {
 #define GATEWAY_ANSWERS
 #endif
 
-/* What a call refuses, in the order in which it checks, but that 19 comes before 1, and 11 after 4 and before 5. 6, 15
-   and 16 are given by no call. */
+/* What a call refuses, in the order in which it checks, but that 15 comes straight after 2, 11 after 4 and before 5,
+   and 19 before 1. 6 and 16 are given by no call. */
 enum {
     GATEWAY_OK = 0,
     GATEWAY_BAD_SETTINGS = 1,   /* k, e, s or a value of d is out of its range, or d is not of 32 values */
@@ -156,8 +180,8 @@ enum {
     GATEWAY_HOST_BIT = 4,       /* the prefix has a bit set after its length */
     GATEWAY_BAD_HOP = 5,        /* the hop is above 65535 */
     GATEWAY_STORED = 6,         /* add up to 0.3: the prefix is already stored; the number is not used anew */
-    GATEWAY_NOT_STORED = 7,     /* withdraw, change: the prefix is not stored */
-    GATEWAY_BUCKET_FULL = 8,    /* add of a prefix not stored: every slot of its bucket is occupied */
+    GATEWAY_NOT_STORED = 7,     /* withdraw, change: the prefix is not stored for the party */
+    GATEWAY_BUCKET_FULL = 8,    /* add of a prefix not stored: every slot of its bucket is occupied, by either party */
     GATEWAY_COUNTER_FULL = 9,   /* add of a prefix not stored: a counter would pass 15 */
     GATEWAY_COUNTER_SHORT = 10, /* withdraw: a counter would pass below 0; the memory is damaged */
     GATEWAY_ODD_PREFIX = 11,    /* add: the prefix lies wholly in 127.0.0.0/8 or in 224.0.0.0/4 */
@@ -168,6 +192,7 @@ enum {
                                    or at a place above 65535 there; a day goes on after such a message */
     GATEWAY_LONG_RECORD = 14,   /* dump: the record of a route has a body above 65536 bytes; day: that of a
                                    message has */
+    GATEWAY_BAD_PARTY = 15,     /* the party is above 1 */
     GATEWAY_INSIDE_RECORD = 17, /* end of a stream: the last record is not complete */
     GATEWAY_BAD_LIST = 18,      /* lookup list: no whole addresses, or not four result words to each;
                                    withdrawal: the room is not of exactly the message's size */
@@ -194,6 +219,7 @@ static inline const char *gateway_refusal_text(uint32_t refusal)
     case GATEWAY_BAD_NEXT_HOP:
         return "routes are announced without a NEXT_HOP, or the list does not have it up to place 65535";
     case GATEWAY_LONG_RECORD: return "the body of a record is above 65536 bytes";
+    case GATEWAY_BAD_PARTY: return "the party is above 1";
     case GATEWAY_INSIDE_RECORD: return "the stream ends inside a record";
     case GATEWAY_BAD_LIST:
         return "the results are not four to each whole address, or the room is not of the message's size";
@@ -220,7 +246,7 @@ static inline const char *gateway_refusal_text(uint32_t refusal)
  */
 #define GATEWAY_COUNTERS_BYTES(d) ((size_t)GATEWAY_LENGTHS << (d))
 #define GATEWAY_COUNTERS_BYTES_OF(...) GATEWAY_SUM_OF_32(__VA_ARGS__)
-#define GATEWAY_SLOTS_WORDS(e, s) (((size_t)64 << (e)) * (s) + 1)
+#define GATEWAY_SLOTS_WORDS(e, s) (((size_t)64 << (e)) * (s) + 2)
 #define GATEWAY_SLOTS_BYTES(e, s) (4 * GATEWAY_SLOTS_WORDS(e, s))
 #define GATEWAY_TABLE_BYTES(d, e, s) (GATEWAY_COUNTERS_BYTES(d) + GATEWAY_SLOTS_BYTES(e, s))
 
@@ -306,13 +332,14 @@ struct gateway_table {
     size_t counters_bytes; /* exactly gateway_counters_bytes(d, GATEWAY_LENGTHS) */
     uint32_t *slots;
     size_t slots_words; /* exactly GATEWAY_SLOTS_WORDS(e, s) */
+    uint32_t party;     /* whose routes the calls are about, 0 or 1; clear and match vector do not look at it */
 };
 
 /* What a lookup answers. If it is refused, all else is 0; if nothing matches, found, hop and length. */
 struct gateway_answer {
-    uint32_t refusal; /* GATEWAY_OK, GATEWAY_BAD_SETTINGS or GATEWAY_BAD_SIZE */
-    uint32_t found;   /* 1 if a route matches, else 0 */
-    uint32_t hop;     /* of the longest route that matches */
+    uint32_t refusal; /* GATEWAY_OK, GATEWAY_BAD_SETTINGS, GATEWAY_BAD_SIZE or GATEWAY_BAD_PARTY */
+    uint32_t found;   /* 1 if a route of the party's matches, else 0 */
+    uint32_t hop;     /* of the longest one that matches */
     uint32_t length;  /* of the same; 0 is the default's */
     uint32_t probes;  /* how many buckets were searched */
 };
@@ -327,7 +354,7 @@ struct gateway_result {
 
 /* What a match vector answers. */
 struct gateway_claims {
-    uint32_t refusal; /* as of a lookup */
+    uint32_t refusal; /* GATEWAY_OK, GATEWAY_BAD_SETTINGS or GATEWAY_BAD_SIZE */
     uint32_t vector;  /* bit L - 1 is set exactly if the filter of length L claims the address */
 };
 
@@ -375,6 +402,9 @@ struct gateway_tally {
  *
  * d is lent as a list, of d_count bytes, which no call changes. Any other count than GATEWAY_LENGTHS is
  * refused as GATEWAY_BAD_SETTINGS, as is a value out of its range.
+ *
+ * party says whose routes a call is about, 0 or 1. Any other is refused as GATEWAY_BAD_PARTY, straight after
+ * GATEWAY_BAD_SIZE.
  */
 
 /* Updates. Of their answers only gateway_refusal is ever other than zero. */
@@ -384,17 +414,17 @@ GATEWAY_ANSWERS uint64_t gateway_clear(uint32_t k, const uint8_t *d, size_t d_co
 
 GATEWAY_ANSWERS uint64_t gateway_add(uint32_t k, const uint8_t *d, size_t d_count, uint32_t e, uint32_t s,
                                      uint32_t a, uint32_t b, uint32_t c, uint8_t *counters,
-                                     size_t counters_bytes, uint32_t *slots, size_t slots_words,
+                                     size_t counters_bytes, uint32_t *slots, size_t slots_words, uint32_t party,
                                      uint32_t prefix, uint32_t length, uint32_t hop);
 
 GATEWAY_ANSWERS uint64_t gateway_withdraw(uint32_t k, const uint8_t *d, size_t d_count, uint32_t e,
                                           uint32_t s, uint32_t a, uint32_t b, uint32_t c, uint8_t *counters,
-                                          size_t counters_bytes, uint32_t *slots, size_t slots_words,
+                                          size_t counters_bytes, uint32_t *slots, size_t slots_words, uint32_t party,
                                           uint32_t prefix, uint32_t length);
 
 GATEWAY_ANSWERS uint64_t gateway_change(uint32_t k, const uint8_t *d, size_t d_count, uint32_t e,
                                         uint32_t s, uint32_t a, uint32_t b, uint32_t c, uint8_t *counters,
-                                        size_t counters_bytes, uint32_t *slots, size_t slots_words,
+                                        size_t counters_bytes, uint32_t *slots, size_t slots_words, uint32_t party,
                                         uint32_t prefix, uint32_t length, uint32_t hop);
 
 /*
@@ -404,7 +434,7 @@ GATEWAY_ANSWERS uint64_t gateway_change(uint32_t k, const uint8_t *d, size_t d_c
 GATEWAY_ANSWERS uint64_t gateway_lookup(uint32_t k, const uint8_t *d, size_t d_count, uint32_t e,
                                         uint32_t s, uint32_t a, uint32_t b, uint32_t c,
                                         const uint8_t *counters, size_t counters_bytes,
-                                        const uint8_t *slots, size_t slots_bytes, uint32_t address);
+                                        const uint8_t *slots, size_t slots_bytes, uint32_t party, uint32_t address);
 
 GATEWAY_ANSWERS uint64_t gateway_match_vector(uint32_t k, const uint8_t *d, size_t d_count, uint32_t e,
                                               uint32_t s, uint32_t a, uint32_t b, uint32_t c,
@@ -416,20 +446,20 @@ GATEWAY_ANSWERS uint64_t gateway_match_vector(uint32_t k, const uint8_t *d, size
  * are: an address is one word, and its results are the four words found (1 or 0), hop, length and probes,
  * each what gateway_lookup gives. So on x86-64 arrays of uint32_t can be lent as their bytes. Of the answer
  * only gateway_refusal is ever other than zero: GATEWAY_BAD_SETTINGS, then GATEWAY_BAD_SIZE, then
- * GATEWAY_BAD_LIST if results_bytes is not four times addresses_bytes or addresses_bytes is no multiple of
- * four. A refused list leaves every byte of the results as it was. An empty one is accepted.
+ * GATEWAY_BAD_PARTY, then GATEWAY_BAD_LIST if results_bytes is not four times addresses_bytes or addresses_bytes
+ * is no multiple of four. A refused list leaves every byte of the results as it was. An empty one is accepted.
  */
 GATEWAY_ANSWERS uint64_t gateway_lookup_list(uint32_t k, const uint8_t *d, size_t d_count, uint32_t e,
                                              uint32_t s, uint32_t a, uint32_t b, uint32_t c,
                                              const uint8_t *counters, size_t counters_bytes,
-                                             const uint8_t *slots, size_t slots_bytes,
+                                             const uint8_t *slots, size_t slots_bytes, uint32_t party,
                                              const uint8_t *addresses, size_t addresses_bytes,
                                              uint8_t *results, size_t results_bytes);
 
 /*
- * Applies one message of a neighbour: an UPDATE of BGP (RFC 4271). Each route that it withdraws is withdrawn, as
- * by gateway_withdraw, and then each that it announces is added, as by gateway_add, in the message's order.
- * A route that the table refuses is counted and skipped, and the others are applied. gateway_accepted and
+ * Applies one message of a neighbour for a party: an UPDATE of BGP (RFC 4271). Each route that it withdraws is
+ * withdrawn, as by gateway_withdraw, and then each that it announces is added, as by gateway_add, in the message's
+ * order. A route that the table refuses is counted and skipped, and the others are applied. gateway_accepted and
  * gateway_refused of the answer are the two counts. Together they are the routes of the message, of which
  * there are at most 4073, so that each count fits into its 12 bits.
  *
@@ -444,8 +474,8 @@ GATEWAY_ANSWERS uint64_t gateway_lookup_list(uint32_t k, const uint8_t *d, size_
  * place of NEXT_HOP there, from 0. The table keeps the number alone, so let an address keep its place: add
  * new ones at the end. An empty list, NULL beside 0, does for messages that announce nothing.
  *
- * Refused are, in this order: GATEWAY_BAD_SETTINGS; GATEWAY_BAD_SIZE; GATEWAY_BAD_MESSAGE, if the marker is
- * not sixteen bytes of 255, the length is not as above, the type is not 2 (UPDATE; so an OPEN or a KEEPALIVE
+ * Refused are, in this order: GATEWAY_BAD_SETTINGS; GATEWAY_BAD_SIZE; GATEWAY_BAD_PARTY; GATEWAY_BAD_MESSAGE, if the
+ * marker is not sixteen bytes of 255, the length is not as above, the type is not 2 (UPDATE; so an OPEN or a KEEPALIVE
  * is refused), a part runs past the end of what it stands in, a prefix is longer than 32, or NEXT_HOP comes
  * twice or is not 4 bytes long; GATEWAY_BAD_NEXT_HOP, if routes are announced without a NEXT_HOP, or with one
  * that the list does not have at a place up to 65535. Of a refused message no route is applied: nothing is
@@ -453,7 +483,7 @@ GATEWAY_ANSWERS uint64_t gateway_lookup_list(uint32_t k, const uint8_t *d, size_
  */
 GATEWAY_ANSWERS uint64_t gateway_update(uint32_t k, const uint8_t *d, size_t d_count, uint32_t e,
                                         uint32_t s, uint32_t a, uint32_t b, uint32_t c, uint8_t *counters,
-                                        size_t counters_bytes, uint32_t *slots, size_t slots_words,
+                                        size_t counters_bytes, uint32_t *slots, size_t slots_words, uint32_t party,
                                         const uint8_t *message, size_t message_bytes, const uint32_t *hops,
                                         size_t hops_words);
 
@@ -475,14 +505,16 @@ GATEWAY_ANSWERS uint64_t gateway_write_withdrawal(uint32_t prefix, uint32_t leng
  *
  * A dump may be cut into chunks anywhere. A chunk may be empty, NULL beside 0. Table, counts and the last number
  * are the same for all cuts. counts are the three of gateway_counts in their order, words and room those of
- * gateway_stream: leave them as they are between two chunks, and give each chunk the same settings and next hops.
+ * gateway_stream: leave them as they are between two chunks, and give each chunk the same settings, next hops and
+ * party.
  *
  * Of the answer only gateway_refusal is ever other than zero. In this order it is
  *
  * - the number that ended the stream, GATEWAY_OK too, if it has ended. Nothing is changed. So begin a stream anew,
  *   by zeros in its words, after an end, GATEWAY_LONG_RECORD and GATEWAY_BAD_MESSAGE;
  * - GATEWAY_BAD_CHUNK, if the chunk has more than GATEWAY_CHUNK_BYTES or a count is above 4000000000, then
- *   GATEWAY_BAD_SETTINGS, then GATEWAY_BAD_SIZE. Nothing is changed, and the import can go on with a better chunk;
+ *   GATEWAY_BAD_SETTINGS, then GATEWAY_BAD_SIZE, then GATEWAY_BAD_PARTY. Nothing is changed, and the import can go on
+ *   with a better chunk;
  * - GATEWAY_LONG_RECORD or GATEWAY_BAD_MESSAGE, at the first record of a route that is too long or not well-formed.
  *   This ends the import. The records before it stay applied and counted, those of this chunk too, and nothing that
  *   follows is done. It is well-formed if the prefix is not longer than 32, the last entry ends where the record
@@ -492,7 +524,7 @@ GATEWAY_ANSWERS uint64_t gateway_write_withdrawal(uint32_t prefix, uint32_t leng
  */
 GATEWAY_ANSWERS uint64_t gateway_import(uint32_t k, const uint8_t *d, size_t d_count, uint32_t e, uint32_t s,
                                         uint32_t a, uint32_t b, uint32_t c, uint8_t *counters,
-                                        size_t counters_bytes, uint32_t *slots, size_t slots_words,
+                                        size_t counters_bytes, uint32_t *slots, size_t slots_words, uint32_t party,
                                         const uint32_t *hops, size_t hops_words, uint32_t counts[3],
                                         uint32_t words[3], uint8_t room[GATEWAY_RECORD_BYTES],
                                         const uint8_t *chunk, size_t chunk_bytes);
@@ -510,8 +542,8 @@ GATEWAY_ANSWERS uint64_t gateway_import(uint32_t k, const uint8_t *d, size_t d_c
  * GATEWAY_BAD_NEXT_HOP is seen and not applied either. The routes of an UPDATE that is applied are counted as
  * accepted, or as refused under the number that gateway_withdraw or gateway_add gives.
  *
- * tally is the 23 words of gateway_tally in their order, and goes up from what it holds. For hops, words, room and
- * chunk all is as for gateway_import. Table, tally and the last number are the same for all cuts of a day into
+ * tally is the 23 words of gateway_tally in their order, and goes up from what it holds. For party, hops, words, room
+ * and chunk all is as for gateway_import. Table, tally and the last number are the same for all cuts of a day into
  * chunks.
  *
  * Of the answer only gateway_refusal is ever other than zero. In this order it is
@@ -519,8 +551,8 @@ GATEWAY_ANSWERS uint64_t gateway_import(uint32_t k, const uint8_t *d, size_t d_c
  * - the number that ended the stream, GATEWAY_OK too, if it has ended. Nothing is changed. So begin a stream anew,
  *   by zeros in its words, after an end, GATEWAY_LONG_RECORD and GATEWAY_BAD_MESSAGE;
  * - GATEWAY_BAD_CHUNK, if the chunk has more than GATEWAY_CHUNK_BYTES or a figure of the tally is above 4000000000,
- *   then GATEWAY_BAD_SETTINGS, then GATEWAY_BAD_SIZE. Nothing is changed, and the replay can go on with a better
- *   chunk;
+ *   then GATEWAY_BAD_SETTINGS, then GATEWAY_BAD_SIZE, then GATEWAY_BAD_PARTY. Nothing is changed, and the replay can
+ *   go on with a better chunk;
  * - GATEWAY_LONG_RECORD, at the first record that is read whose body is longer than 65536 bytes, with its header's
  *   last byte; or GATEWAY_BAD_MESSAGE, at the first whose body ends before its address family does or, with IPv4,
  *   before both addresses and the 19 bytes of a message's header do, or whose UPDATE gateway_update refuses as
@@ -531,7 +563,7 @@ GATEWAY_ANSWERS uint64_t gateway_import(uint32_t k, const uint8_t *d, size_t d_c
  */
 GATEWAY_ANSWERS uint64_t gateway_replay(uint32_t k, const uint8_t *d, size_t d_count, uint32_t e, uint32_t s,
                                         uint32_t a, uint32_t b, uint32_t c, uint8_t *counters,
-                                        size_t counters_bytes, uint32_t *slots, size_t slots_words,
+                                        size_t counters_bytes, uint32_t *slots, size_t slots_words, uint32_t party,
                                         const uint32_t *hops, size_t hops_words, uint32_t tally[23],
                                         uint32_t words[3], uint8_t room[GATEWAY_RECORD_BYTES],
                                         const uint8_t *chunk, size_t chunk_bytes);
@@ -607,46 +639,48 @@ static inline uint32_t gateway_refused(uint64_t answer)
     (table)->counters, (table)->counters_bytes, (const uint8_t *)(table)->slots,                   \
         (table)->slots_words <= (size_t)-1 / 4 ? 4 * (table)->slots_words : 1
 
-/* Empties the table: zero in every byte and word. Lent memory is a table from here on. */
+/* Empties the table of both parties' routes: zero in every byte and word. Lent memory is a table from here on. */
 GATEWAY_ANSWERS static inline uint32_t gateway_table_clear(struct gateway_table *table)
 {
     return gateway_refusal(gateway_clear(GATEWAY_SETTINGS_OF(table), GATEWAY_WORDS_OF(table)));
 }
 
-/* Stores a route. A prefix that is stored with this length gets the new hop in place of its old one: this
-   takes no room, so no full bucket or counter stands in its way. A prefix that lies wholly in 127.0.0.0/8, which is
-   the gateway itself, or in 224.0.0.0/4, multicast, is refused as GATEWAY_ODD_PREFIX; a shorter one that only
-   contains them is not. A table filled by an earlier version may hold such a route: withdraw and change reach it. */
+/* Stores a route for the table's party. A prefix that it has stored with this length gets the new hop in place of its
+   old one: this takes no room, so no full bucket or counter stands in its way. A prefix that lies wholly in
+   127.0.0.0/8, which is the gateway itself, or in 224.0.0.0/4, multicast, is refused as GATEWAY_ODD_PREFIX; a shorter
+   one that only contains them is not. A table filled by an earlier version may hold such a route: withdraw and change
+   reach it. */
 GATEWAY_ANSWERS static inline uint32_t gateway_table_add(struct gateway_table *table, uint32_t prefix,
                                                          uint32_t length, uint32_t hop)
 {
     return gateway_refusal(
-        gateway_add(GATEWAY_SETTINGS_OF(table), GATEWAY_WORDS_OF(table), prefix, length, hop));
+        gateway_add(GATEWAY_SETTINGS_OF(table), GATEWAY_WORDS_OF(table), table->party, prefix, length, hop));
 }
 
-/* Takes a stored route out, however often it was added. */
+/* Takes a stored route of the party's out, however often it was added. */
 GATEWAY_ANSWERS static inline uint32_t gateway_table_withdraw(struct gateway_table *table,
                                                               uint32_t prefix, uint32_t length)
 {
     return gateway_refusal(
-        gateway_withdraw(GATEWAY_SETTINGS_OF(table), GATEWAY_WORDS_OF(table), prefix, length));
+        gateway_withdraw(GATEWAY_SETTINGS_OF(table), GATEWAY_WORDS_OF(table), table->party, prefix, length));
 }
 
-/* Gives a stored route a new hop, as add does, but stores none: a prefix that is not stored is refused. */
+/* Gives a stored route of the party's a new hop, as add does, but stores none: a prefix that it has not stored is
+   refused. */
 GATEWAY_ANSWERS static inline uint32_t gateway_table_change(struct gateway_table *table,
                                                             uint32_t prefix, uint32_t length,
                                                             uint32_t hop)
 {
     return gateway_refusal(
-        gateway_change(GATEWAY_SETTINGS_OF(table), GATEWAY_WORDS_OF(table), prefix, length, hop));
+        gateway_change(GATEWAY_SETTINGS_OF(table), GATEWAY_WORDS_OF(table), table->party, prefix, length, hop));
 }
 
-/* The next hop of the longest stored route that matches an address, the default's if no other does. */
+/* The next hop of the party's longest stored route that matches an address, its default's if no other does. */
 GATEWAY_ANSWERS static inline struct gateway_answer
 gateway_table_lookup(const struct gateway_table *table, uint32_t address)
 {
     const uint64_t number =
-        gateway_lookup(GATEWAY_SETTINGS_OF(table), GATEWAY_BYTES_OF(table), address);
+        gateway_lookup(GATEWAY_SETTINGS_OF(table), GATEWAY_BYTES_OF(table), table->party, address);
     const struct gateway_answer answer = {gateway_refusal(number), (uint32_t)gateway_found(number),
                                           gateway_hop(number), gateway_length(number),
                                           gateway_probes(number)};
@@ -661,11 +695,11 @@ gateway_table_lookup_list(const struct gateway_table *table, const uint32_t *add
 {
     const int fits = count <= (size_t)-1 / sizeof *results;
     return gateway_refusal(gateway_lookup_list(
-        GATEWAY_SETTINGS_OF(table), GATEWAY_BYTES_OF(table), (const uint8_t *)addresses,
+        GATEWAY_SETTINGS_OF(table), GATEWAY_BYTES_OF(table), table->party, (const uint8_t *)addresses,
         fits ? count * sizeof *addresses : 1, (uint8_t *)results, fits ? count * sizeof *results : 0));
 }
 
-/* The lengths whose filters claim an address. */
+/* The lengths whose filters claim an address, for either party's routes. */
 GATEWAY_ANSWERS static inline struct gateway_claims
 gateway_table_match_vector(const struct gateway_table *table, uint32_t address)
 {
@@ -681,8 +715,8 @@ GATEWAY_ANSWERS static inline struct gateway_report
 gateway_table_update(struct gateway_table *table, const uint8_t *message, size_t message_bytes,
                      const uint32_t *hops, size_t count)
 {
-    const uint64_t number = gateway_update(GATEWAY_SETTINGS_OF(table), GATEWAY_WORDS_OF(table), message,
-                                           message_bytes, hops, count);
+    const uint64_t number = gateway_update(GATEWAY_SETTINGS_OF(table), GATEWAY_WORDS_OF(table), table->party,
+                                           message, message_bytes, hops, count);
     const struct gateway_report report = {gateway_refusal(number), gateway_accepted(number),
                                           gateway_refused(number)};
     return report;
@@ -703,7 +737,7 @@ gateway_table_import(struct gateway_table *table, struct gateway_stream *stream,
 {
     uint32_t words[3] = {counts->accepted, counts->refused, counts->without_hop};
     const uint64_t number =
-        gateway_import(GATEWAY_SETTINGS_OF(table), GATEWAY_WORDS_OF(table), hops, hops_count, words,
+        gateway_import(GATEWAY_SETTINGS_OF(table), GATEWAY_WORDS_OF(table), table->party, hops, hops_count, words,
                        stream->words, stream->room, chunk, chunk_bytes);
     counts->accepted = words[0];
     counts->refused = words[1];
@@ -721,7 +755,7 @@ gateway_table_replay(struct gateway_table *table, struct gateway_stream *stream,
     for (size_t i = 0; i < 20; i++)
         words[3 + i] = tally->refused[i];
     const uint64_t number =
-        gateway_replay(GATEWAY_SETTINGS_OF(table), GATEWAY_WORDS_OF(table), hops, hops_count, words,
+        gateway_replay(GATEWAY_SETTINGS_OF(table), GATEWAY_WORDS_OF(table), table->party, hops, hops_count, words,
                        stream->words, stream->room, chunk, chunk_bytes);
     tally->seen = words[0];
     tally->applied = words[1];

@@ -5,14 +5,14 @@
  *
  *     host FILE SIZE
  *
- * A request is twenty numbers of 64 bits: the call, k, where the values of d begin in the file and how
- * many are lent, e, s, a, b, c, where the counters begin and how many are lent, the same of the slots, then
- * what the call has beside them: for a list where its addresses begin and how many bytes they have, and the
- * same of its results; for a message the same of its bytes and of the words of its next hops; for a
- * withdrawal to be written prefix and length, and the same of its room; for an import the same of its chunk
- * and of the words of its next hops, and where the counts, the words and the room of its stream begin; for a
- * replay the same, with the tally in place of the counts; for the end of a stream where its words begin, the
- * sixth of these. What a call does not have is zero. An answer is one such number.
+ * A request is twenty-one numbers of 64 bits: the call, k, where the values of d begin in the file and how
+ * many are lent, e, s, a, b, c, where the counters begin and how many are lent, the same of the slots, the
+ * party, then what the call has beside them: for a list where its addresses begin and how many bytes they
+ * have, and the same of its results; for a message the same of its bytes and of the words of its next hops;
+ * for a withdrawal to be written prefix and length, and the same of its room; for an import the same of its
+ * chunk and of the words of its next hops, and where the counts, the words and the room of its stream begin;
+ * for a replay the same, with the tally in place of the counts; for the end of a stream where its words
+ * begin, the sixth of these. What a call does not have is zero. An answer is one such number.
  */
 #define _XOPEN_SOURCE 600
 
@@ -32,7 +32,7 @@ enum {
     END_STREAM
 };
 
-enum { NUMBERS = 20, SECONDS_TO_END = 20, CALLS_BETWEEN = 256 };
+enum { NUMBERS = 21, SECONDS_TO_END = 20, CALLS_BETWEEN = 256 };
 
 static void fail(const char *what)
 {
@@ -54,24 +54,25 @@ static uint64_t answer(uint8_t *memory, const uint64_t n[NUMBERS])
     const uint32_t k = (uint32_t)n[1], e = (uint32_t)n[4], s = (uint32_t)n[5], a = (uint32_t)n[6],
                    b = (uint32_t)n[7], c = (uint32_t)n[8];
     uint8_t *counters = memory + n[9], *slots = memory + n[11];
-    const uint32_t asked = (uint32_t)n[13], length = (uint32_t)n[14], hop = (uint32_t)n[15];
+    const uint32_t party = (uint32_t)n[13];
+    const uint32_t asked = (uint32_t)n[14], length = (uint32_t)n[15], hop = (uint32_t)n[16];
     switch (n[0]) {
     case CLEAR: return gateway_clear(WORDS);
-    case ADD: return gateway_add(WORDS, asked, length, hop);
-    case WITHDRAW: return gateway_withdraw(WORDS, asked, length);
-    case CHANGE: return gateway_change(WORDS, asked, length, hop);
+    case ADD: return gateway_add(WORDS, party, asked, length, hop);
+    case WITHDRAW: return gateway_withdraw(WORDS, party, asked, length);
+    case CHANGE: return gateway_change(WORDS, party, asked, length, hop);
     case VECTOR: return gateway_match_vector(BYTES, asked);
-    case LOOKUP: return gateway_lookup(BYTES, asked);
-    case LOOKUP_LIST: return gateway_lookup_list(BYTES, memory + n[13], n[14], memory + n[15], n[16]);
-    case UPDATE: return gateway_update(WORDS, memory + n[13], n[14], words_at(memory, n[15]), n[16]);
-    case WRITE_WITHDRAWAL: return gateway_write_withdrawal(asked, length, memory + n[15], n[16]);
+    case LOOKUP: return gateway_lookup(BYTES, party, asked);
+    case LOOKUP_LIST: return gateway_lookup_list(BYTES, party, memory + n[14], n[15], memory + n[16], n[17]);
+    case UPDATE: return gateway_update(WORDS, party, memory + n[14], n[15], words_at(memory, n[16]), n[17]);
+    case WRITE_WITHDRAWAL: return gateway_write_withdrawal(asked, length, memory + n[16], n[17]);
     case IMPORT:
-        return gateway_import(WORDS, words_at(memory, n[15]), n[16], words_at(memory, n[17]),
-                              words_at(memory, n[18]), memory + n[19], memory + n[13], n[14]);
+        return gateway_import(WORDS, party, words_at(memory, n[16]), n[17], words_at(memory, n[18]),
+                              words_at(memory, n[19]), memory + n[20], memory + n[14], n[15]);
     case REPLAY:
-        return gateway_replay(WORDS, words_at(memory, n[15]), n[16], words_at(memory, n[17]),
-                              words_at(memory, n[18]), memory + n[19], memory + n[13], n[14]);
-    case END_STREAM: return gateway_end_stream(words_at(memory, n[18]));
+        return gateway_replay(WORDS, party, words_at(memory, n[16]), n[17], words_at(memory, n[18]),
+                              words_at(memory, n[19]), memory + n[20], memory + n[14], n[15]);
+    case END_STREAM: return gateway_end_stream(words_at(memory, n[19]));
     default: errno = EINVAL; fail("an unknown call"); return 0;
     }
 }

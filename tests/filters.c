@@ -51,7 +51,8 @@ static int is_left(void)
 static struct gateway_table cleared(uint32_t k, const uint8_t *d, size_t bytes, uint32_t e, uint32_t s, uint32_t a,
                                     uint32_t b, uint32_t c)
 {
-    struct gateway_table table = {{k, {0}, e, s, a, b, c}, lent.counters, bytes, lent.slots, gateway_slots_words(e, s)};
+    struct gateway_table table = {{k, {0}, e, s, a, b, c}, lent.counters, bytes, lent.slots, gateway_slots_words(e, s),
+                                  0};
     memcpy(table.settings.d, d, sizeof table.settings.d);
     lent = left = empty;
     CHECK(gateway_table_clear(&table) == GATEWAY_OK);
@@ -226,15 +227,15 @@ static uint64_t answer(int call, struct told t)
 {
     switch (call) {
     case CLEAR: return gateway_clear(WORDS);
-    case ADD: return gateway_add(WORDS, 0x0a020000, 16, 1);
-    case WITHDRAW: return gateway_withdraw(WORDS, 0x0a000000, 8);
-    case CHANGE: return gateway_change(WORDS, 0x0a000000, 8, 9);
-    case LOOKUP: return gateway_lookup(BYTES, lent.address);
+    case ADD: return gateway_add(WORDS, 0, 0x0a020000, 16, 1);
+    case WITHDRAW: return gateway_withdraw(WORDS, 0, 0x0a000000, 8);
+    case CHANGE: return gateway_change(WORDS, 0, 0x0a000000, 8, 9);
+    case LOOKUP: return gateway_lookup(BYTES, 0, lent.address);
     case VECTOR: return gateway_match_vector(BYTES, lent.address);
     case LIST:
-        return gateway_lookup_list(BYTES, (const uint8_t *)&lent.address, sizeof lent.address,
+        return gateway_lookup_list(BYTES, 0, (const uint8_t *)&lent.address, sizeof lent.address,
                                    (uint8_t *)&lent.result, sizeof lent.result);
-    default: return gateway_update(WORDS, lent.message, sizeof lent.message, lent.hops, 1);
+    default: return gateway_update(WORDS, 0, lent.message, sizeof lent.message, lent.hops, 1);
     }
 }
 
@@ -312,12 +313,12 @@ static void run_values(void)
     memcpy(d, worked, 31);
     const struct told less = {d, 32, WORKED_BYTES - 1, SLOTS - 1};
     CHECK(refuse(less, GATEWAY_BAD_SETTINGS));
-    CHECK(gateway_add(2, d, 32, 1, 2, 1, 2, 1, lent.counters, WORKED_BYTES, lent.slots, SLOTS, 1, 33, 65536) ==
+    CHECK(gateway_add(2, d, 32, 1, 2, 1, 2, 1, lent.counters, WORKED_BYTES, lent.slots, SLOTS, 2, 1, 33, 65536) ==
           (uint64_t)GATEWAY_BAD_SETTINGS << 48);
-    CHECK(gateway_update(2, d, 32, 1, 2, 1, 2, 1, lent.counters, WORKED_BYTES, lent.slots, SLOTS, NULL, 0, NULL, 0) ==
-          (uint64_t)GATEWAY_BAD_SETTINGS << 48);
+    CHECK(gateway_update(2, d, 32, 1, 2, 1, 2, 1, lent.counters, WORKED_BYTES, lent.slots, SLOTS, 2, NULL, 0, NULL,
+                         0) == (uint64_t)GATEWAY_BAD_SETTINGS << 48);
     CHECK(gateway_lookup_list(2, d, 32, 1, 2, 1, 2, 1, lent.counters, WORKED_BYTES, (const uint8_t *)lent.slots,
-                              4 * SLOTS, NULL, 0, (uint8_t *)&lent.result, sizeof lent.result) ==
+                              4 * SLOTS, 2, NULL, 0, (uint8_t *)&lent.result, sizeof lent.result) ==
           (uint64_t)GATEWAY_BAD_SETTINGS << 48);
     CHECK(gateway_clear(9, d, 31, 9, 9, 1, 2, 1, NULL, 0, NULL, 0) == (uint64_t)GATEWAY_BAD_SETTINGS << 48);
     CHECK(is_left());

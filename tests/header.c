@@ -64,16 +64,16 @@ int main(void)
 {
     run_lists();
 
-    /* Settings T: 512 counters, 257 words. */
+    /* Settings T: 512 counters, 258 words. */
     uint8_t counters[GATEWAY_COUNTERS_BYTES(4)], both[GATEWAY_TABLE_BYTES(4, 1, 2)];
     uint32_t slots[GATEWAY_SLOTS_WORDS(1, 2)];
     const uint8_t fours[] = GATEWAY_EQUAL(4);
     CHECK(sizeof counters == 512 && gateway_counters_bytes(fours, sizeof fours) == 512);
-    CHECK(sizeof slots == 4 * 257 && gateway_slots_words(1, 2) == 257);
+    CHECK(sizeof slots == 4 * 258 && gateway_slots_words(1, 2) == 258);
     CHECK(gateway_slots_bytes(1, 2) == sizeof slots && GATEWAY_SLOTS_BYTES(1, 2) == sizeof slots);
     CHECK(sizeof both == sizeof counters + sizeof slots);
 
-    CHECK(gateway_slots_words(8, 8) == 131073 && gateway_slots_words(0, 1) == 65);
+    CHECK(gateway_slots_words(8, 8) == 131074 && gateway_slots_words(0, 1) == 66);
     CHECK(gateway_slots_words(UINT32_MAX, 1) == 0);
     CHECK(gateway_slots_words(9, 1) == 0 && gateway_slots_words(0, 0) == 0);
     CHECK(gateway_slots_words(0, 9) == 0 && gateway_slots_bytes(0, 9) == 0);
@@ -114,19 +114,25 @@ int main(void)
     CHECK(gateway_refusal((uint64_t)13 << 48) == GATEWAY_BAD_NEXT_HOP && gateway_refused(no_message) == 0);
 
     /* Each number that is given has a text of its own. */
-    const uint32_t numbers[] = {0, 1, 2, 3, 4, 5, 6, 7, 8, 9, 10, 11, 12, 13, 14, 17, 18, 19};
+    const uint32_t numbers[] = {0, 1, 2, 3, 4, 5, 6, 7, 8, 9, 10, 11, 12, 13, 14, 15, 17, 18, 19};
     const size_t many = sizeof numbers / sizeof numbers[0];
     for (size_t i = 0; i < many; i++) {
         CHECK(strcmp(gateway_refusal_text(numbers[i]), gateway_refusal_text(UINT32_MAX)) != 0);
         for (size_t j = 0; j < i; j++)
             CHECK(strcmp(gateway_refusal_text(numbers[i]), gateway_refusal_text(numbers[j])) != 0);
     }
-    const uint32_t unused[] = {15, 16, 20, 65535};
+    const uint32_t unused[] = {16, 20, 65535};
     for (size_t i = 0; i < sizeof unused / sizeof unused[0]; i++)
         CHECK(strcmp(gateway_refusal_text(unused[i]), gateway_refusal_text(UINT32_MAX)) == 0);
     CHECK(GATEWAY_STORED == 6); /* given by no call, and not used anew */
     CHECK(GATEWAY_ODD_PREFIX == 11 && GATEWAY_BAD_MESSAGE == 12 && GATEWAY_LONG_RECORD == 14 && GATEWAY_INSIDE_RECORD == 17);
-    CHECK(GATEWAY_BAD_LIST == 18 && GATEWAY_BAD_CHUNK == 19);
+    CHECK(GATEWAY_BAD_PARTY == 15 && GATEWAY_BAD_LIST == 18 && GATEWAY_BAD_CHUNK == 19);
+
+    /* A table of zeros is party 0's, and the party is the last field: nothing but padding lies behind it. */
+    static struct gateway_table table;
+    CHECK(table.party == 0);
+    CHECK(offsetof(struct gateway_table, party) > offsetof(struct gateway_table, slots_words));
+    CHECK(sizeof table - offsetof(struct gateway_table, party) - sizeof table.party < sizeof(size_t));
 
     /* A stream is three words and room for a header of 12 bytes and a body, with nothing between them. */
     CHECK(GATEWAY_CHUNK_BYTES == 65536 && GATEWAY_RECORD_BYTES == 12 + 65536);

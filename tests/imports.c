@@ -1,7 +1,8 @@
 /*
  * The imports of gateway.h, over the archive: what each chunk does and what is refused, worked out from the format.
  * Every chunk is lent from each boundary in turn, and taken twice: by the exported function and by the one on a table,
- * on memory of the same contents. Margins lie between the lists that are lent, and no call may touch them.
+ * on memory of the same contents. Margins lie between the lists that are lent, and no call may touch them. All of it
+ * is done for each party.
  */
 #include "check.h"
 #include "records.h"
@@ -28,6 +29,9 @@ struct lent {
 /* Those of the two functions, and what was lent to them. */
 static struct lent lent, twin, before;
 
+/* Whose table it is. */
+static uint32_t party;
+
 static int same(const struct lent *one, const struct lent *other)
 {
     return memcmp(one, other, sizeof *one) == 0;
@@ -42,7 +46,7 @@ static void begin(void)
 
 static struct gateway_table table_over(struct lent *memory, struct gateway_settings settings)
 {
-    struct gateway_table table = {settings, memory->counters, COUNTERS, memory->slots, SLOTS};
+    struct gateway_table table = {settings, memory->counters, COUNTERS, memory->slots, SLOTS, party};
     return table;
 }
 
@@ -110,7 +114,7 @@ static int gives_by(struct gateway_table table, const uint32_t *list, size_t cou
     uint32_t counts[5] = {1, lent.counts.accepted, lent.counts.refused, lent.counts.without_hop, 2};
     const uint64_t number =
         gateway_import(t.k, t.d, sizeof t.d, t.e, t.s, t.a, t.b, t.c, lent.counters, table.counters_bytes, lent.slots,
-                       table.slots_words, list, count, counts + 1, lent.stream.words, lent.stream.room,
+                       table.slots_words, table.party, list, count, counts + 1, lent.stream.words, lent.stream.room,
                        chunk == NULL ? NULL : from, size);
     const struct gateway_counts counted = {counts[1], counts[2], counts[3]};
     lent.counts = counted;
@@ -590,6 +594,8 @@ static void run_ended(void)
             CHECK(ends(number) && has_words(ended[i].word, 7 * others, 9 * others));
         }
         CHECK(gateway_table_import(&table, &lent.stream, &lent.counts, hops, HOPS, file.bytes, 65537) == number);
+        table.party = 2;
+        CHECK(refuses(table, file.bytes, file.size, number));
         table.slots_words--;
         CHECK(refuses(table, file.bytes, file.size, number));
         table.settings.k = 9;
@@ -671,29 +677,36 @@ static void run_words(void)
     }
 }
 
-/* 19 comes before 1, and 1 before 2; they leave all as it was, in the midst of a record too. */
+/* 19 comes before 1, 1 before 2, and 2 before 15; they leave all as it was, in the midst of a record too. */
 static void run_order(void)
 {
-    struct gateway_table table = cleared(), wrong_sizes, wrong_settings;
+    static const uint32_t others[] = {2, 3, 65536, 0x80000000u, UINT32_MAX};
+    struct gateway_table table = cleared(), wrong_party = table, wrong_sizes, wrong_settings;
     make_worked();
     CHECK(gives(table, file.bytes, 30, GATEWAY_OK));
-    wrong_sizes = wrong_settings = table;
+    for (size_t i = 0; i < sizeof others / sizeof others[0]; i++) {
+        wrong_party.party = others[i];
+        CHECK(refuses(wrong_party, file.bytes + 30, file.size - 30, GATEWAY_BAD_PARTY));
+        CHECK(refuses(wrong_party, NULL, 0, GATEWAY_BAD_PARTY));
+    }
+    wrong_sizes = wrong_settings = wrong_party;
     wrong_sizes.counters_bytes++;
     wrong_settings.counters_bytes--;
     wrong_settings.settings.d[31] = 12;
     CHECK(refuses(wrong_sizes, file.bytes + 30, file.size - 30, GATEWAY_BAD_SIZE));
     CHECK(refuses(wrong_settings, file.bytes + 30, file.size - 30, GATEWAY_BAD_SETTINGS));
-    wrong_sizes = table;
+    wrong_sizes = wrong_party;
     wrong_sizes.slots_words--;
     CHECK(refuses(wrong_sizes, NULL, 0, GATEWAY_BAD_SIZE));
     wrong_settings.settings.s = 0;
     CHECK(refuses(wrong_settings, NULL, 0, GATEWAY_BAD_SETTINGS));
     uint32_t counts[3] = {0, 0, 0};
-    CHECK(gateway_import(2, table.settings.d, 31, 1, 2, 1, 2, 1, lent.counters, COUNTERS, lent.slots, SLOTS, hops, HOPS,
-                         counts, lent.stream.words, lent.stream.room, file.bytes, 1) ==
+    CHECK(gateway_import(2, table.settings.d, 31, 1, 2, 1, 2, 1, lent.counters, COUNTERS, lent.slots, SLOTS, 2, hops,
+                         HOPS, counts, lent.stream.words, lent.stream.room, file.bytes, 1) ==
           (uint64_t)GATEWAY_BAD_SETTINGS << 48);
     CHECK(same(&lent, &before) && counts[0] == 0 && counts[1] == 0 && counts[2] == 0);
     lent.counts.accepted = UINT32_MAX;
+    CHECK(refuses(wrong_party, file.bytes, 1, GATEWAY_BAD_CHUNK));
     CHECK(refuses(wrong_sizes, file.bytes, 1, GATEWAY_BAD_CHUNK));
     CHECK(refuses(wrong_settings, file.bytes, 1, GATEWAY_BAD_CHUNK));
     lent.counts.accepted = before.counts.accepted = 0;
@@ -706,23 +719,27 @@ static void run_order(void)
     empty_file();
     put_record(ROUTE, "");
     CHECK(refuses(wrong_sizes, file.bytes, file.size, GATEWAY_BAD_SIZE));
+    CHECK(refuses(wrong_party, file.bytes, file.size, GATEWAY_BAD_PARTY));
     CHECK(imports(table, GATEWAY_BAD_MESSAGE) && refuses(wrong_sizes, file.bytes, file.size, GATEWAY_BAD_MESSAGE));
+    CHECK(refuses(wrong_party, file.bytes, file.size, GATEWAY_BAD_MESSAGE));
 }
 
 int main(void)
 {
-    run_worked();
-    run_cuts();
-    run_lengths();
-    run_refused();
-    run_hops();
-    run_attributes();
-    run_bad_records();
-    run_long_records();
-    run_longest_step();
-    run_bad_chunks();
-    run_ended();
-    run_words();
-    run_order();
+    for (party = 0; party <= 1; party++) {
+        run_worked();
+        run_cuts();
+        run_lengths();
+        run_refused();
+        run_hops();
+        run_attributes();
+        run_bad_records();
+        run_long_records();
+        run_longest_step();
+        run_bad_chunks();
+        run_ended();
+        run_words();
+        run_order();
+    }
     return wrong ? EXIT_FAILURE : EXIT_SUCCESS;
 }

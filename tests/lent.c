@@ -34,7 +34,7 @@ struct call {
     uint32_t k, e, s, a, b, c;
     uint8_t d[MOST_VALUES];
     size_t d_count; /* so many of them are lent */
-    uint32_t asked, length, hop;
+    uint32_t party, asked, length, hop;
 };
 
 /* What one of the two is lent. An update is told of words of slots, a question of bytes. */
@@ -93,8 +93,8 @@ static void check(int agrees, const struct call *c, const char *what)
 {
     if (agrees)
         return;
-    printf("lent: under seed %llu, table %lu, %s with K %u, E %u, S %u, D", seed, table, names[c->kind],
-           (unsigned)c->k, (unsigned)c->e, (unsigned)c->s);
+    printf("lent: under seed %llu, table %lu, %s of party %u with K %u, E %u, S %u, D", seed, table, names[c->kind],
+           (unsigned)c->party, (unsigned)c->k, (unsigned)c->e, (unsigned)c->s);
     for (size_t i = 0; i < c->d_count; i++)
         printf(" %u", (unsigned)c->d[i]);
     printf(": the %s differs\n", what);
@@ -114,22 +114,22 @@ static uint64_t answer(const struct calls *calls, const struct call *c, const st
 {
     switch (c->kind) {
     case CLEAR: return calls->clear(WORDS);
-    case ADD: return calls->add(WORDS, c->asked, c->length, c->hop);
-    case WITHDRAW: return calls->withdraw(WORDS, c->asked, c->length);
-    case CHANGE: return calls->change(WORDS, c->asked, c->length, c->hop);
+    case ADD: return calls->add(WORDS, c->party, c->asked, c->length, c->hop);
+    case WITHDRAW: return calls->withdraw(WORDS, c->party, c->asked, c->length);
+    case CHANGE: return calls->change(WORDS, c->party, c->asked, c->length, c->hop);
     case VECTOR: return calls->match_vector(BYTES, c->asked);
-    case LOOKUP: return calls->lookup(BYTES, c->asked);
+    case LOOKUP: return calls->lookup(BYTES, c->party, c->asked);
     case LIST:
-        return calls->lookup_list(BYTES, m->addresses.at, m->addresses.size, m->results.at, m->results.size);
+        return calls->lookup_list(BYTES, c->party, m->addresses.at, m->addresses.size, m->results.at, m->results.size);
     case MESSAGE:
-        return calls->update(WORDS, m->message.at, m->message.size, (const uint32_t *)(void *)m->hops.at,
+        return calls->update(WORDS, c->party, m->message.at, m->message.size, (const uint32_t *)(void *)m->hops.at,
                              m->hops.size / 4);
     case IMPORT:
-        return calls->import(WORDS, (const uint32_t *)(void *)m->hops.at, m->hops.size / 4,
+        return calls->import(WORDS, c->party, (const uint32_t *)(void *)m->hops.at, m->hops.size / 4,
                              (uint32_t *)(void *)m->counts.at, (uint32_t *)(void *)m->words.at, m->record.at,
                              m->chunk.at, m->chunk.size);
     case REPLAY:
-        return calls->replay(WORDS, (const uint32_t *)(void *)m->hops.at, m->hops.size / 4,
+        return calls->replay(WORDS, c->party, (const uint32_t *)(void *)m->hops.at, m->hops.size / 4,
                              (uint32_t *)(void *)m->tally.at, (uint32_t *)(void *)m->words.at, m->record.at,
                              m->chunk.at, m->chunk.size);
     case END: return calls->end_stream((uint32_t *)(void *)m->words.at);
@@ -145,6 +145,11 @@ static int asks(const struct call *c)
 static int takes_chunk(const struct call *c)
 {
     return c->kind == IMPORT || c->kind == REPLAY;
+}
+
+static int names_party(enum kind kind)
+{
+    return kind != CLEAR && kind != VECTOR && kind != WRITE && kind != END;
 }
 
 /* One in so many is wrong, by a little or altogether. */
@@ -598,13 +603,14 @@ static void compare(const struct call *c, struct lent *by_hand, struct lent *m)
     lend_filters(by_hand, m, c);
     const uint64_t ours = answer(&hand, c, by_hand);
     const uint32_t refusal = gateway_refusal(ours);
-    const int unread = refusal == GATEWAY_BAD_SETTINGS || refusal == GATEWAY_BAD_SIZE;
+    const int unread = refusal == GATEWAY_BAD_SETTINGS || refusal == GATEWAY_BAD_SIZE || refusal == GATEWAY_BAD_PARTY;
     if (ours == 0 && (c->kind == LIST || c->kind == WRITE)) {
         /* Each byte is written, so that none need be before. */
         forget(&m->results);
         forget(&m->room);
     } else if (c->kind == MESSAGE && (unread || refusal == GATEWAY_BAD_MESSAGE)) {
-        /* Of a bad message the next hops are not needed, and where settings or sizes are bad the message is not. */
+        /* Of a bad message the next hops are not needed, and where settings, sizes or the party are bad the message is
+           not. */
         forget(&m->hops);
         if (unread)
             forget(&m->message);
@@ -656,6 +662,12 @@ static uint32_t random_multiplier(void)
 {
     static const uint32_t some[] = {0, 1, 2, GATEWAY_GOOD_A, GATEWAY_GOOD_B, GATEWAY_GOOD_C, 0x80000000, 0xffffffff};
     return one_in(3) ? random_word() : some[random_below(sizeof some / sizeof some[0])];
+}
+
+/* One of the two, seldom another. */
+static uint32_t random_party(void)
+{
+    return !one_in(30) ? random_below(2) : one_in(3) ? random_word() : 2 + random_below(2);
 }
 
 /* From least to most, often one of the two. */
@@ -755,7 +767,7 @@ static void call_rightly(const struct call *c, struct lent by_hand, struct lent 
     int small = m.slots.size < SMALL || one_in(16);
     if (c->kind == VECTOR && one_in(2))
         m.slots = own = lend(m.slots.size, random_below(4));
-    else if (c->kind == CHANGE && one_in(2))
+    else if ((c->kind == CHANGE || (names_party(c->kind) && c->party > 1)) && one_in(2))
         m.counters = own = lend(m.counters.size, 0);
     else if (asks(c) && small && one_in(2))
         m.slots = own = copy(&m.slots, random_below(4));
@@ -785,6 +797,22 @@ static void damage(const struct lent *by_hand, const struct lent *m)
 {
     fill(&by_hand->counters);
     memcpy(m->counters.at, by_hand->counters.at, m->counters.size);
+}
+
+/* Puts marks at which something changes into slots that are occupied, and into the defaults, of both. */
+static void damage_marks(const struct lent *by_hand, const struct lent *m)
+{
+    static const uint32_t some[] = {0, 1, 65536, 65537, 131072, 131073, UINT32_MAX};
+    const size_t words = by_hand->slots.size / 4;
+    for (size_t i = 1; i < words; i += i < words - 3 ? 2 : 1) {
+        uint32_t mark;
+        memcpy(&mark, by_hand->slots.at + 4 * i, sizeof mark);
+        if ((mark == 0 && i < words - 2) || !one_in(4))
+            continue;
+        mark = one_in(4) ? random_below(131074) : some[random_below(sizeof some / sizeof some[0])];
+        memcpy(by_hand->slots.at + 4 * i, &mark, sizeof mark);
+        memcpy(m->slots.at + 4 * i, &mark, sizeof mark);
+    }
 }
 
 /* A table, cleared or with anything in it, and what is then asked of it. Most are small, since they are quick. */
@@ -820,6 +848,7 @@ static void run_table(void)
     for (int i = 0; i < 120; i++) {
         const struct call *route = &routes[random_below(ROUTES)];
         c.kind = random_kind();
+        c.party = random_party();
         c.asked = route->asked;
         c.length = route->length;
         c.hop = one_in(20) ? random_word() : random_below(65536);
@@ -827,6 +856,8 @@ static void run_table(void)
             c.asked |= random_word() >> random_below(32);
         if (!large && one_in(100))
             damage(&by_hand, &m);
+        if (!large && one_in(60))
+            damage_marks(&by_hand, &m);
         if (one_in(8) && c.kind != WRITE && c.kind != END)
             call_wrongly(c, routes);
         else
@@ -845,7 +876,7 @@ static void run_table(void)
 /* Says what was met, and ends in failure where a number was not. */
 static int tell(void)
 {
-    static const int numbers[] = {0, 1, 2, 3, 4, 5, 7, 8, 9, 10, 11, 12, 13, 14, 17, 18, 19};
+    static const int numbers[] = {0, 1, 2, 3, 4, 5, 7, 8, 9, 10, 11, 12, 13, 14, 15, 17, 18, 19};
     static const int under[] = {7, 8, 9, 10, 11};
     int narrow = 0;
     uint64_t calls = 0;
@@ -860,7 +891,8 @@ static int tell(void)
     }
     for (int kind = 0; kind < KINDS; kind++)
         narrow |= given[kind][0] == 0 ||
-                  (kind != WRITE && kind != END && (given[kind][1] == 0 || given[kind][2] == 0));
+                  (kind != WRITE && kind != END && (given[kind][1] == 0 || given[kind][2] == 0)) ||
+                  (names_party((enum kind)kind) && given[kind][15] == 0);
     narrow |= given[LIST][18] == 0 || given[WRITE][18] == 0 || routes_accepted == 0 || routes_refused == 0;
     narrow |= given[IMPORT][12] == 0 || given[IMPORT][14] == 0 || given[IMPORT][19] == 0 || given[END][17] == 0;
     narrow |= given[REPLAY][12] == 0 || given[REPLAY][14] == 0 || given[REPLAY][19] == 0;

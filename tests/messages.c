@@ -1,7 +1,7 @@
 /*
  * The messages of gateway.h, over the archive: what each does and what is refused, worked out from the format.
  * Every message is lent from each boundary in turn, and done twice: by the exported function and by the one on a
- * table, on memory of the same contents.
+ * table, on memory of the same contents. All of it is done for each party.
  */
 #include "check.h"
 
@@ -16,11 +16,14 @@ enum { COUNTERS = GATEWAY_COUNTERS_BYTES(4), SLOTS = GATEWAY_SLOTS_WORDS(1, 2) }
 static uint8_t counters[COUNTERS], twin_counters[COUNTERS], left_counters[COUNTERS];
 static uint32_t slots[SLOTS], twin_slots[SLOTS], left_slots[SLOTS];
 
+/* Whose table it is. */
+static uint32_t party;
+
 /* A cleared table: that of settings T, of P9, of P10 and the like have as much memory or less. */
 static struct gateway_table cleared(uint32_t k, uint32_t e, uint32_t s, uint32_t a, uint32_t b, uint32_t c)
 {
     struct gateway_table table = {{k, GATEWAY_EQUAL(4), e, s, a, b, c}, counters, COUNTERS, slots,
-                                  gateway_slots_words(e, s)};
+                                  gateway_slots_words(e, s), party};
     memset(slots, 0, sizeof slots); /* those beyond this table too */
     CHECK(gateway_table_clear(&table) == GATEWAY_OK);
     return table;
@@ -126,7 +129,7 @@ static int gives(struct gateway_table *table, const uint8_t *message, size_t siz
 
     const uint64_t number =
         gateway_update(t.k, t.d, sizeof t.d, t.e, t.s, t.a, t.b, t.c, counters, table->counters_bytes, slots,
-                       table->slots_words, message == NULL ? NULL : from, size, list, count);
+                       table->slots_words, table->party, message == NULL ? NULL : from, size, list, count);
     const struct gateway_report report = gateway_table_update(&twin, from, size, list, count);
     return number == ((uint64_t)refusal << 48) + ((uint64_t)refused << 12) + accepted && report.refusal == refusal &&
            report.accepted == accepted && report.refused == refused && same_memory(twin_counters, twin_slots) &&
@@ -173,14 +176,15 @@ static struct message worked(void)
     return message_of("10 0a 01", ORIGIN AS_PATH NEXT_HOP, "18 c0 00 02 00");
 }
 
-/* 192.0.2.0/24 has positions 12 and 4, bytes 380 and 372, and bucket 1, whose first slot has words 188 and 189. */
+/* 192.0.2.0/24 has positions 12 and 4, bytes 380 and 372, and bucket 1, whose first slot has words 188 and 189. The
+   default of party 0 is word 256, that of party 1 the next. */
 static int holds_worked(uint32_t hop)
 {
-    static uint8_t expected_counters[COUNTERS];
-    static uint32_t expected_slots[SLOTS];
+    uint8_t expected_counters[COUNTERS] = {0};
+    uint32_t expected_slots[SLOTS] = {0};
     expected_counters[380] = expected_counters[372] = 1;
     expected_slots[188] = 0xc0000200;
-    expected_slots[189] = expected_slots[256] = hop + 1;
+    expected_slots[189] = expected_slots[256 + party] = (party == 0 ? 1 : 65537) + hop;
     return same_memory(expected_counters, expected_slots);
 }
 
@@ -222,7 +226,7 @@ static void run_skipped(void)
     CHECK(counts(&table, message_of("", NEXT_HOP, "20 00 00 00 04 00"), 1, 1));
     CHECK(goes_to(&table, 3, 1, 32) && goes_to(&table, 4, 1, 0));
     counters[496] = 0; /* damage: a withdrawal gets 10 */
-    CHECK(counts(&table, message_of("20 00 00 00 01 00", "", ""), 1, 1) && slots[248] == 1 && slots[256] == 0);
+    CHECK(counts(&table, message_of("20 00 00 00 01 00", "", ""), 1, 1) && slots[248] == 1 && slots[256 + party] == 0);
 }
 
 /* A prefix of each length whose further bits are set: they mean nothing. */
@@ -381,6 +385,7 @@ static void run_no_hops(void)
     const struct message m = message_of("08 0a", NEXT_HOP, "08 0b");
     CHECK(gives(&table, m.bytes, m.size, NULL, 0, GATEWAY_BAD_NEXT_HOP, 0, 0));
     CHECK(gives(&table, m.bytes, m.size, hops, 1, GATEWAY_BAD_NEXT_HOP, 0, 0));
+    list[65535] = 0;
     list[65536] = list[65537] = 0x0a090901;
     CHECK(gives(&table, m.bytes, m.size, list, MANY, GATEWAY_BAD_NEXT_HOP, 0, 0));
     CHECK(gives(&table, m.bytes, m.size, list, 65536, GATEWAY_BAD_NEXT_HOP, 0, 0));
@@ -395,11 +400,18 @@ static void run_no_hops(void)
     CHECK(gives(&table, last.bytes, last.size, NULL, 0, GATEWAY_OK, 1, 0) && is_empty());
 }
 
-/* 1 comes before 2, and 2 before 12. */
+/* 1 comes before 2, 2 before 15, and 15 before 12. */
 static void run_order(void)
 {
+    static const uint32_t others[] = {2, 3, 65536, 0x80000000u, UINT32_MAX};
     struct gateway_table table = cleared_t();
     const struct message good = worked(), bad = with(good, 18, 4);
+    for (size_t i = 0; i < sizeof others / sizeof others[0]; i++) {
+        table.party = others[i];
+        CHECK(refuses(&table, good, GATEWAY_BAD_PARTY) && refuses(&table, bad, GATEWAY_BAD_PARTY));
+        CHECK(refuses(&table, message_of("08 0a", "", "08 0b"), GATEWAY_BAD_PARTY));
+        CHECK(gives(&table, NULL, 0, NULL, 0, GATEWAY_BAD_PARTY, 0, 0));
+    }
     table.slots_words--;
     CHECK(refuses(&table, good, GATEWAY_BAD_SIZE) && refuses(&table, bad, GATEWAY_BAD_SIZE));
     CHECK(gives(&table, NULL, 0, NULL, 0, GATEWAY_BAD_SIZE, 0, 0));
@@ -468,14 +480,16 @@ static void run_withdrawals(void)
 
 int main(void)
 {
-    run_worked();
-    run_skipped();
-    run_lengths();
-    run_longest();
-    run_attributes();
-    run_no_messages();
-    run_no_hops();
-    run_order();
-    run_withdrawals();
+    for (party = 0; party <= 1; party++) {
+        run_worked();
+        run_skipped();
+        run_lengths();
+        run_longest();
+        run_attributes();
+        run_no_messages();
+        run_no_hops();
+        run_order();
+        run_withdrawals();
+    }
     return wrong ? EXIT_FAILURE : EXIT_SUCCESS;
 }

@@ -2,7 +2,7 @@
  * The replays of gateway.h, over the archive: what each chunk of a recorded day does and what is refused, worked out
  * from the formats. Every chunk is lent from each boundary in turn, and taken twice: by the exported function and by
  * the one on a table, on memory of the same contents. Margins lie between the lists that are lent, and no call may
- * touch them.
+ * touch them. All of it is done for each party.
  */
 #include "check.h"
 #include "records.h"
@@ -32,6 +32,9 @@ struct lent {
 /* Those of the two functions, and what was lent to them. */
 static struct lent lent, twin, before;
 
+/* Whose table it is. */
+static uint32_t party;
+
 static int same(const struct lent *one, const struct lent *other)
 {
     return memcmp(one, other, sizeof *one) == 0;
@@ -55,7 +58,7 @@ static void begin(void)
 static struct gateway_table cleared(void)
 {
     const struct gateway_settings t = {2, GATEWAY_EQUAL(4), 1, 2, 1, 2, 1};
-    struct gateway_table table = {t, lent.counters, COUNTERS, lent.slots, SLOTS};
+    struct gateway_table table = {t, lent.counters, COUNTERS, lent.slots, SLOTS, party};
     memset(&lent, 0xa5, sizeof lent);
     CHECK(gateway_table_clear(&table) == GATEWAY_OK);
     begin();
@@ -161,7 +164,7 @@ static int gives_by(struct gateway_table table, const uint32_t *list, size_t cou
     figures[1 + FIGURES] = 2;
     const uint64_t number =
         gateway_replay(t.k, t.d, sizeof t.d, t.e, t.s, t.a, t.b, t.c, lent.counters, table.counters_bytes, lent.slots,
-                       table.slots_words, list, count, figures + 1, lent.stream.words, lent.stream.room,
+                       table.slots_words, table.party, list, count, figures + 1, lent.stream.words, lent.stream.room,
                        chunk == NULL ? NULL : from, size);
     lent.tally = tally_of(figures + 1);
     return number == (uint64_t)refusal << 48 && figures[0] == 1 && figures[1 + FIGURES] == 2 &&
@@ -495,7 +498,7 @@ static void run_refused(void)
     put_update("08 0a 08 0a", NEXT_HOP, "08 0a");
     put_update("08 0b", "", "");
     CHECK(replays(table, GATEWAY_OK) && tallied(2, 2, 1, 1, 0, 0, 2, 0));
-    CHECK(lent.slots[57] == 2); /* the word of its mark, with the new hop */
+    CHECK(lent.slots[57] == (party == 0 ? 2 : 65538)); /* the word of its mark, with the new hop */
 
     /* As many routes as a message can have: 4,073 times the default, of which the table has one. */
     table = cleared();
@@ -794,6 +797,8 @@ static void run_ended(void)
             CHECK(ends(number) && has_words(ended[i].word, 7 * others, 9 * others));
         }
         CHECK(gateway_table_replay(&table, &lent.stream, &lent.tally, hops, HOPS, file.bytes, 65537) == number);
+        table.party = 2;
+        CHECK(refuses(table, file.bytes, file.size, number));
         table.slots_words--;
         CHECK(refuses(table, file.bytes, file.size, number));
         table.settings.k = 9;
@@ -897,31 +902,38 @@ static void run_mixed(void)
     CHECK(has_words(0, 0, 0) && is_empty() && counts.accepted == 0 && counts.without_hop == 0);
 }
 
-/* 19 comes before 1, and 1 before 2; they leave all as it was, in the midst of a record too. */
+/* 19 comes before 1, 1 before 2, and 2 before 15; they leave all as it was, in the midst of a record too. */
 static void run_order(void)
 {
-    struct gateway_table table = cleared(), wrong_sizes, wrong_settings;
+    static const uint32_t others[] = {2, 3, 65536, 0x80000000u, UINT32_MAX};
+    struct gateway_table table = cleared(), wrong_party = table, wrong_sizes, wrong_settings;
     make_worked();
     CHECK(gives(table, file.bytes, 60, GATEWAY_OK));
-    wrong_sizes = wrong_settings = table;
+    for (size_t i = 0; i < sizeof others / sizeof others[0]; i++) {
+        wrong_party.party = others[i];
+        CHECK(refuses(wrong_party, file.bytes + 60, file.size - 60, GATEWAY_BAD_PARTY));
+        CHECK(refuses(wrong_party, NULL, 0, GATEWAY_BAD_PARTY));
+    }
+    wrong_sizes = wrong_settings = wrong_party;
     wrong_sizes.counters_bytes++;
     wrong_settings.counters_bytes--;
     wrong_settings.settings.d[31] = 12;
     CHECK(refuses(wrong_sizes, file.bytes + 60, file.size - 60, GATEWAY_BAD_SIZE));
     CHECK(refuses(wrong_settings, file.bytes + 60, file.size - 60, GATEWAY_BAD_SETTINGS));
-    wrong_sizes = table;
+    wrong_sizes = wrong_party;
     wrong_sizes.slots_words--;
     CHECK(refuses(wrong_sizes, NULL, 0, GATEWAY_BAD_SIZE));
     wrong_settings.settings.s = 0;
     CHECK(refuses(wrong_settings, NULL, 0, GATEWAY_BAD_SETTINGS));
     uint32_t figures[FIGURES] = {0};
-    CHECK(gateway_replay(2, table.settings.d, 31, 1, 2, 1, 2, 1, lent.counters, COUNTERS, lent.slots, SLOTS, hops, HOPS,
-                         figures, lent.stream.words, lent.stream.room, file.bytes, 1) ==
+    CHECK(gateway_replay(2, table.settings.d, 31, 1, 2, 1, 2, 1, lent.counters, COUNTERS, lent.slots, SLOTS, 2, hops,
+                         HOPS, figures, lent.stream.words, lent.stream.room, file.bytes, 1) ==
           (uint64_t)GATEWAY_BAD_SETTINGS << 48);
     CHECK(same(&lent, &before));
     for (size_t i = 0; i < FIGURES; i++)
         CHECK(figures[i] == 0);
     lent.tally.refused[0] = UINT32_MAX;
+    CHECK(refuses(wrong_party, file.bytes, 1, GATEWAY_BAD_CHUNK));
     CHECK(refuses(wrong_sizes, file.bytes, 1, GATEWAY_BAD_CHUNK));
     CHECK(refuses(wrong_settings, file.bytes, 1, GATEWAY_BAD_CHUNK));
     lent.tally.refused[0] = before.tally.refused[0] = 0;
@@ -934,7 +946,9 @@ static void run_order(void)
     empty_file();
     put_record(MESSAGE, "");
     CHECK(refuses(wrong_sizes, file.bytes, file.size, GATEWAY_BAD_SIZE));
+    CHECK(refuses(wrong_party, file.bytes, file.size, GATEWAY_BAD_PARTY));
     CHECK(replays(table, GATEWAY_BAD_MESSAGE) && refuses(wrong_sizes, file.bytes, file.size, GATEWAY_BAD_MESSAGE));
+    CHECK(refuses(wrong_party, file.bytes, file.size, GATEWAY_BAD_MESSAGE));
 
     /* Of two records the first decides: 12 before 14, and 14 before 12. */
     for (int first = 0; first < 2; first++) {
@@ -949,21 +963,23 @@ static void run_order(void)
 
 int main(void)
 {
-    run_worked();
-    run_cuts();
-    run_kinds();
-    run_families();
-    run_types();
-    run_hopless();
-    run_refused();
-    run_short_records();
-    run_bad_messages();
-    run_long_records();
-    run_longest_step();
-    run_bad_chunks();
-    run_ended();
-    run_words();
-    run_mixed();
-    run_order();
+    for (party = 0; party <= 1; party++) {
+        run_worked();
+        run_cuts();
+        run_kinds();
+        run_families();
+        run_types();
+        run_hopless();
+        run_refused();
+        run_short_records();
+        run_bad_messages();
+        run_long_records();
+        run_longest_step();
+        run_bad_chunks();
+        run_ended();
+        run_words();
+        run_mixed();
+        run_order();
+    }
     return wrong ? EXIT_FAILURE : EXIT_SUCCESS;
 }

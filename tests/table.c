@@ -1,7 +1,7 @@
 /*
  * The calls of gateway.h on a table, over the archive: worked cases of docs/TABLE.md, every refusal
  * as the plain number that it is, adds of what is stored, what docs/SETTINGS.md says of ninety routes, and the
- * header's example of filters of unequal size.
+ * header's example of filters of unequal size. All of it is done for each party.
  */
 #include "check.h"
 
@@ -25,12 +25,21 @@ static int is_refused(struct gateway_answer answer, uint32_t refusal)
 static uint8_t counters[GATEWAY_COUNTERS_BYTES(11)];
 static uint32_t slots[GATEWAY_SLOTS_WORDS(8, 8)];
 
+/* Whose table it is. */
+static uint32_t party;
+
+/* The mark of a hop: from 1 on for party 0, from 65537 on for party 1. */
+static uint32_t mark_of(uint32_t hop)
+{
+    return (party == 0 ? 1 : 65537) + hop;
+}
+
 /* A cleared table whose filters are all of one size, in as much of that memory as its settings ask. */
 static struct gateway_table cleared(uint32_t k, uint32_t d, uint32_t e, uint32_t s, uint32_t a, uint32_t b,
                                     uint32_t c)
 {
     struct gateway_table table = {{k, {0}, e, s, a, b, c}, counters, GATEWAY_COUNTERS_BYTES(d), slots,
-                                  gateway_slots_words(e, s)};
+                                  gateway_slots_words(e, s), party};
     gateway_settings_fill(&table.settings, d);
     CHECK(gateway_table_clear(&table) == GATEWAY_OK);
     return table;
@@ -101,14 +110,14 @@ static int adds_in(struct gateway_table *table, uint32_t prefix, uint32_t length
     memcpy(same, counters, sizeof counters);
     memcpy(left, slots, sizeof slots);
     if (refusal == GATEWAY_OK)
-        left[word] = hop + 1;
+        left[word] = mark_of(hop);
     return gateway_table_add(table, prefix, length, hop) == refusal &&
            memcmp(counters, same, sizeof counters) == 0 && memcmp(slots, left, sizeof slots) == 0;
 }
 
 static int replaces(struct gateway_table *table, uint32_t prefix, uint32_t length, uint32_t hop, size_t word)
 {
-    return slots[word] != hop + 1 && adds_in(table, prefix, length, hop, GATEWAY_OK, word);
+    return slots[word] != mark_of(hop) && adds_in(table, prefix, length, hop, GATEWAY_OK, word);
 }
 
 static int refuses(struct gateway_table *table, uint32_t prefix, uint32_t length, uint32_t hop, uint32_t refusal)
@@ -136,7 +145,6 @@ static int is_empty(const struct gateway_table *table)
     return used == 0;
 }
 
-/* An add of a stored prefix, under settings T: bucket 0 of length 8 has words 56 to 59, the default 256. */
 /* 11: what lies wholly in 127.0.0.0/8 or 224.0.0.0/4, after 4 and before 5, and in an add alone. */
 static void run_odd(void)
 {
@@ -161,16 +169,19 @@ static void run_odd(void)
 
     /* An entry from before: bucket 0 of length 8 begins at word 56. It is changed, not replaced, and withdrawn. */
     slots[56] = 0x7f000000;
-    slots[57] = 6;
+    slots[57] = mark_of(5);
     CHECK(refuses(&table, 0x7f000000, 8, 7, GATEWAY_ODD_PREFIX));
-    CHECK(gateway_table_change(&table, 0x7f000000, 8, 7) == GATEWAY_OK && slots[57] == 8);
+    CHECK(gateway_table_change(&table, 0x7f000000, 8, 7) == GATEWAY_OK && slots[57] == mark_of(7));
     memset(counters, 15, table.counters_bytes);
     CHECK(gateway_table_withdraw(&table, 0x7f000000, 8) == GATEWAY_OK && slots[57] == 0);
 }
 
+/* An add of a stored prefix, under settings T: bucket 0 of length 8 has words 56 to 59, the default of party 0 is
+   word 256, that of party 1 the next. */
 static void run_replaced(void)
 {
     struct gateway_table table = cleared(2, 4, 1, 2, 1, 2, 1);
+    const size_t default_word = 256 + party;
     CHECK(gateway_table_add(&table, 0x0a000000, 8, 7) == GATEWAY_OK);
     CHECK(replaces(&table, 0x0a000000, 8, 8, 57));
     CHECK(goes_to(&table, 0x0a020203, 8, 8, 1));
@@ -188,7 +199,7 @@ static void run_replaced(void)
     CHECK(refuses(&table, 0x09000000, 8, 6, GATEWAY_BUCKET_FULL));
     CHECK(refuses(&table, 0x09000000, 8, 65536, GATEWAY_BAD_HOP));
 
-    CHECK(replaces(&table, 0, 0, 3, 256) && replaces(&table, 0, 0, 4, 256));
+    CHECK(replaces(&table, 0, 0, 3, default_word) && replaces(&table, 0, 0, 4, default_word));
     CHECK(goes_to(&table, 0x0b000001, 4, 0, 0));
     CHECK(refuses(&table, 0, 0, 65536, GATEWAY_BAD_HOP));
 
@@ -200,11 +211,11 @@ static void run_replaced(void)
     CHECK(gateway_table_withdraw(&table, 0, 0) == GATEWAY_OK);
     CHECK(is_empty(&table));
 
-    /* Damaged memory, with 10.0.0.0/8 in both slots: the lower one is written, if it is occupied. */
+    /* Damaged memory, with 10.0.0.0/8 in both slots: the lower one is written, if its mark is the party's. */
     slots[56] = slots[58] = 0x0a000000;
-    slots[57] = slots[59] = 6;
+    slots[57] = slots[59] = mark_of(5);
     CHECK(replaces(&table, 0x0a000000, 8, 8, 57));
-    slots[57] = 65537;
+    slots[57] = 131073;
     CHECK(replaces(&table, 0x0a000000, 8, 8, 59));
 }
 
@@ -245,8 +256,8 @@ static uint32_t list_refusal(const struct gateway_table *table, size_t addresses
     const struct gateway_settings t = table->settings;
     const uint64_t answer = gateway_lookup_list(
         t.k, t.d, sizeof t.d, t.e, t.s, t.a, t.b, t.c, table->counters, table->counters_bytes,
-        (const uint8_t *)table->slots, 4 * table->slots_words, addresses + 1, addresses_bytes, results + 1,
-        results_bytes);
+        (const uint8_t *)table->slots, 4 * table->slots_words, table->party, addresses + 1, addresses_bytes,
+        results + 1, results_bytes);
     if (answer == 0)
         memcpy(left + 1, given, results_bytes);
     CHECK(memcmp(results, left, sizeof results) == 0);
@@ -282,6 +293,12 @@ static void run_list(void)
         CHECK(list_refusal(&table, 16 + stray, 64) == GATEWAY_BAD_LIST);
     }
 
+    other.party = 2;
+    CHECK(list_refusal(&other, 16, 64) == GATEWAY_BAD_PARTY);
+    CHECK(list_refusal(&other, 15, 63) == GATEWAY_BAD_PARTY);
+    CHECK(list_refusal(&other, 0, 0) == GATEWAY_BAD_PARTY);
+    CHECK(gateway_table_lookup_list(&other, asked, 4, results) == GATEWAY_BAD_PARTY);
+    CHECK(gateway_table_lookup_list(&other, asked, (size_t)-1, results) == GATEWAY_BAD_PARTY);
     other.slots_words--;
     CHECK(list_refusal(&other, 16, 64) == GATEWAY_BAD_SIZE);
     CHECK(list_refusal(&other, 15, 63) == GATEWAY_BAD_SIZE);
@@ -356,16 +373,18 @@ static void run_unequal(void)
 
 int main(void)
 {
-    run_worked();
-    run_refusals();
-    run_odd();
-    run_replaced();
-    run_replaced_at_15();
-    run_list();
-    run_long_list();
-    CHECK(ninety(cleared(4, 10, 7, 8, GATEWAY_GOOD_A, GATEWAY_GOOD_B, GATEWAY_GOOD_C), GATEWAY_OK) == 90);
-    CHECK(ninety(cleared(4, 11, 8, 8, 1, 2, 1), GATEWAY_BUCKET_FULL) == 8);
-    CHECK(ninety(cleared(4, 11, 8, 8, 0, 0, 0), GATEWAY_COUNTER_FULL) == 3);
-    run_unequal();
+    for (party = 0; party <= 1; party++) {
+        run_worked();
+        run_refusals();
+        run_odd();
+        run_replaced();
+        run_replaced_at_15();
+        run_list();
+        run_long_list();
+        CHECK(ninety(cleared(4, 10, 7, 8, GATEWAY_GOOD_A, GATEWAY_GOOD_B, GATEWAY_GOOD_C), GATEWAY_OK) == 90);
+        CHECK(ninety(cleared(4, 11, 8, 8, 1, 2, 1), GATEWAY_BUCKET_FULL) == 8);
+        CHECK(ninety(cleared(4, 11, 8, 8, 0, 0, 0), GATEWAY_COUNTER_FULL) == 3);
+        run_unequal();
+    }
     return wrong ? EXIT_FAILURE : EXIT_SUCCESS;
 }

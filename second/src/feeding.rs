@@ -3,14 +3,16 @@
 
 use crate::calls::{Chunk, Lent, Of, Settings, Stream};
 use crate::cutting::{Cut, MOST_TAKEN};
-use crate::history::{source, Failure, History};
+use crate::history::{source, Failure, History, STRANGERS_FIRST, STRANGERS_FIRST_OF_WRONG};
 use crate::library::{Area, Library, MOST_CHUNK, ROOM};
 use crate::pair::{Difference, Pair};
 use crate::paper_days::SEEN;
 use crate::paper_streams::first_record;
+use crate::parties;
 use crate::random::Random;
 use crate::random_days::day;
 use crate::random_dumps::dump;
+use crate::record_draft::HEADER;
 use crate::recordings::{any_words, figures, Recording, Spoilt, MOST_COUNTED};
 use crate::streams::StreamPair;
 use crate::tally::Tally;
@@ -24,6 +26,11 @@ const TWO_WAYS: usize = 15;
 /// So many chunks of a hundred are taken by the calls that the stream is not for.
 const MIXED: usize = 2;
 
+/// So many chunks of a hundred name the other party than the one whose recording it is, and so many the other or one
+/// that there is not.
+const OTHER_PARTY: usize = 5;
+const OTHER_OR_STRANGER: usize = 8;
+
 /// What comes in turn, so that a run meets it all: the figures that are at a limit, and what is wrong about a day.
 pub struct Turns {
     pub counts: usize,
@@ -33,6 +40,9 @@ pub struct Turns {
 
 pub struct Feeding {
     recording: Recording,
+    /// The party whose recording it is, and the one that the last chunk named that was taken.
+    party: u32,
+    last_party: u32,
     cut: Cut,
     /// How many bytes have come, and how many of them had before the stream began.
     at: usize,
@@ -52,6 +62,7 @@ impl Feeding {
         random: &mut Random,
         library: &mut Library,
         pair: &mut Pair,
+        party: u32,
         recording: Recording,
         any: bool,
     ) -> Feeding {
@@ -64,13 +75,26 @@ impl Feeding {
         };
         pair.stream.begin(library, pair.area, random.below(64), words, room);
         let (last, from_start) = (recording.of, words == [0; 3]);
-        Feeding { recording, cut, at: start, start, from_start, last, alone: true, unseen: 0 }
+        let last_party = party;
+        Feeding {
+            recording,
+            party,
+            last_party,
+            cut,
+            at: start,
+            start,
+            from_start,
+            last,
+            alone: true,
+            unseen: 0,
+        }
     }
 
     /// The same recording from its start, cut in another way.
     pub fn again(self, random: &mut Random) -> Feeding {
         let cut = Cut::random(random, &self.recording);
-        Feeding { cut, at: self.start, last: self.recording.of, alone: true, unseen: 0, ..self }
+        let (last, last_party) = (self.recording.of, self.party);
+        Feeding { last_party, cut, at: self.start, last, alone: true, unseen: 0, ..self }
     }
 
     /// What the stream is for.
@@ -99,6 +123,15 @@ impl Feeding {
         chunk
     }
 
+    /// Whether so many bytes more come to the record that has something wrong about it, or end it.
+    fn comes_to_wrong(&self, size: usize) -> bool {
+        let Recording { bytes, records, spoilt, .. } = &self.recording;
+        spoilt.is_some_and(|(start, _)| {
+            let end = records.iter().copied().find(|other| *other > start).unwrap_or(bytes.len());
+            [start + HEADER, end].iter().any(|place| (self.at + 1..=self.at + size).contains(place))
+        })
+    }
+
     /// So many bytes more have come, be they taken or not.
     fn went(&mut self, size: usize) {
         self.at = (self.at + size).min(self.recording.bytes.len());
@@ -109,7 +142,10 @@ impl Feeding {
         if chunk.of != self.last {
             tally.count_mixed(chunk);
         }
-        self.last = chunk.of;
+        if chunk.party != self.last_party {
+            tally.parties.count_went_on(chunk);
+        }
+        (self.last, self.last_party) = (chunk.of, chunk.party);
         self.alone &= chunk.of == self.of();
         if !self.from_start || !self.alone {
             return;
@@ -170,12 +206,14 @@ impl History<'_> {
     }
 
     pub fn begin_feeding(&mut self, pair: &mut Pair, of: Of, any_words: bool) {
-        let source = source(&self.pool, pair);
+        let party = self.known_party();
+        let source = source(&self.pool, pair, party);
         let recording = match of {
             Of::Dump => dump(&mut self.random, &source),
             Of::Day => day(&mut self.random, &source, &mut self.turns.spoils),
         };
-        self.feeding = Some(Feeding::begin(&mut self.random, self.library, pair, recording, any_words));
+        let feeding = Feeding::begin(&mut self.random, self.library, pair, party, recording, any_words);
+        self.feeding = Some(feeding);
         self.begin_figures(pair);
     }
 
@@ -206,7 +244,12 @@ impl History<'_> {
             (Of::Dump, false) | (Of::Day, true) => Of::Dump,
             _ => Of::Day,
         };
-        let chunk = self.chunk(pair, of, bytes);
+        let party = match self.random.below(100) {
+            0..OTHER_PARTY => 1 - feeding.party,
+            OTHER_PARTY..OTHER_OR_STRANGER => parties::stranger(&mut self.random),
+            _ => feeding.party,
+        };
+        let chunk = self.chunk(pair, party, of, bytes);
         let right = pair.lent(&chunk);
         let (mut t, mut lent) = (self.t, right);
         if self.random.percent(5) {
@@ -216,21 +259,34 @@ impl History<'_> {
         } else if damaged && self.random.percent(3) {
             t = self.other_settings();
         }
-        self.take(pair, &t, lent, &chunk)
+        let first = match self.feeding.as_ref().is_some_and(|fed| fed.comes_to_wrong(chunk.bytes.len())) {
+            true => STRANGERS_FIRST_OF_WRONG,
+            false => STRANGERS_FIRST,
+        };
+        self.take(pair, &t, lent, &chunk, first)
     }
 
-    /// A chunk of what is fed, for calls of this kind.
-    pub fn chunk(&mut self, pair: &Pair, of: Of, bytes: Vec<u8>) -> Chunk {
+    /// A chunk of what is fed, for calls of this party and kind.
+    pub fn chunk(&mut self, pair: &Pair, party: u32, of: Of, bytes: Vec<u8>) -> Chunk {
         let hops: Rc<[u32]> = self.feeding.as_ref().map_or([].into(), |fed| fed.recording.hops.clone());
-        pair.stream.chunk(of, bytes, self.random.below(4), hops, self.random.below(4))
+        pair.stream.chunk(party, of, bytes, self.random.below(4), hops, self.random.below(4))
     }
 
-    /// Takes a chunk of what is fed, and counts what it has met.
-    pub fn take(&mut self, pair: &mut Pair, t: &Settings, lent: Lent, chunk: &Chunk) -> Result<(), Failure> {
-        let number = self.call_with(pair, t, lent, chunk)? >> 48;
+    /// Takes a chunk of what is fed, so many times of a hundred after a party that there is not, and counts what it
+    /// has met.
+    pub fn take(
+        &mut self,
+        pair: &mut Pair,
+        t: &Settings,
+        lent: Lent,
+        chunk: &Chunk,
+        strangers: usize,
+    ) -> Result<(), Failure> {
+        let number = self.call_after(strangers, pair, t, lent, chunk.into())? >> 48;
         let ended = chunk.words[0] != 0;
         // A chunk that was not looked at comes again.
-        let Some(feeding) = self.feeding.as_mut().filter(|_| ended || !matches!(number, 1 | 2 | 19)) else {
+        let Some(feeding) = self.feeding.as_mut().filter(|_| ended || !matches!(number, 1 | 2 | 15 | 19))
+        else {
             return Ok(());
         };
         feeding.went(chunk.bytes.len());
@@ -246,9 +302,9 @@ impl History<'_> {
         self.call_with(pair, &t, lent, &end)
     }
 
-    /// Feeds a recording that has begun to its table and to another one that is the same, cut in two ways: both end
-    /// by the same number, and both tables and streams are the same then. No figure comes near its limit, since only
-    /// where a chunk begins is it asked.
+    /// Feeds a recording that has begun to its table and to another one that is the same, cut in two ways, for one
+    /// party throughout: both end by the same number, and both tables and streams are the same then. No figure comes
+    /// near its limit, since only where a chunk begins is it asked.
     fn cut_in_two_ways(&mut self, one: &mut Pair) -> Result<(), Failure> {
         let Stream { counts, tally, .. } = one.stream.held();
         let (counts, tally) = (
@@ -281,10 +337,10 @@ impl History<'_> {
     /// Feeds the rest of a recording, and ends its stream.
     fn feed(&mut self, pair: &mut Pair) -> Result<u64, Failure> {
         while let Some(feeding) = self.feeding.as_ref().filter(|feeding| !feeding.done()) {
-            let (of, bytes) = (feeding.of(), feeding.chunk(&mut self.random));
-            let chunk = self.chunk(pair, of, bytes);
+            let (party, of, bytes) = (feeding.party, feeding.of(), feeding.chunk(&mut self.random));
+            let chunk = self.chunk(pair, party, of, bytes);
             let (t, lent) = (self.t, pair.lent(&chunk));
-            self.take(pair, &t, lent, &chunk)?;
+            self.take(pair, &t, lent, &chunk, STRANGERS_FIRST)?;
         }
         self.end_stream(pair)
     }

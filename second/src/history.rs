@@ -1,17 +1,19 @@
 //! Random histories. A seed and a number fix a history, so that a failing one can be replayed.
 
-use crate::calls::{AnyCall, Call, Lent, Message, Of, Settings, Sizes};
+use crate::calls::{AnyCall, Call, Chunk, Lent, List, Message, Of, Settings, Sizes};
 use crate::feeding::{ended, Feeding, Turns};
 use crate::library::{Area, Library, MARGIN};
 use crate::other_sizes::{self, Kind, KINDS};
 use crate::pair::{Difference, Pair};
+use crate::parties::{self, EDGES, PARTIES};
 use crate::random::Random;
 use crate::random_lists;
 use crate::random_messages::{self, Source};
 use crate::random_sizes;
 use crate::replacing;
-use crate::routes::Routes;
+use crate::routes::{Route, Routes};
 use crate::rules;
+use crate::sharing::{self, PLACES, PROBED, READERS};
 use crate::slips::Slip;
 use crate::tally::{Tally, WITH_SETTINGS};
 use crate::told::{told, Answer};
@@ -33,7 +35,8 @@ impl fmt::Display for Failure {
 /// Hops and marks at which something changes.
 const HOPS: [u32; 6] = [0, 1, 7, 255, 65_534, 65_535];
 const HIGH_HOPS: [u32; 5] = [65_536, 65_537, 131_071, 1 << 31, u32::MAX];
-const MARKS: [u32; 9] = [0, 1, 2, 65_535, 65_536, 65_537, 131_072, 1 << 31, u32::MAX];
+const MARKS: [u32; 12] =
+    [0, 1, 2, 65_535, 65_536, 65_537, 65_538, 131_071, 131_072, 131_073, 1 << 31, u32::MAX];
 const COUNTS: [u8; 11] = [0, 0, 1, 2, 7, 13, 14, 15, 16, 254, 255];
 
 /// The routes of the histories that fill their tables.
@@ -68,6 +71,20 @@ const OTHER_SIZES: usize = 16;
 /// So many histories of a hundred begin with a route of each length.
 const EVERY_LENGTH: usize = 40;
 
+/// So many calls of a hundred name a party that there is not. So many calls of a party are made by such a one first,
+/// and so many of those that have something wrong about them, which are seldom.
+const STRANGERS: usize = 2;
+pub const STRANGERS_FIRST: usize = 4;
+pub const STRANGERS_FIRST_OF_WRONG: usize = 50;
+
+/// So many calls of a hundred over damaged memory are about a mark at which something changes. Over the histories
+/// each such mark stands in each place, and each call reads it for each party, in turn.
+const EDGE_CALLS: usize = 6;
+const EDGE_TURNS: usize = EDGES.len() * PLACES.len() * READERS.len() * PARTIES;
+
+/// So many of them one history is thought to meet, so that the next one goes on after it.
+const EDGES_MET: usize = 25;
+
 /// How the history runs: what is got wrong on purpose, and whether each call is shown.
 #[derive(Clone, Copy)]
 pub struct Manner {
@@ -83,6 +100,8 @@ pub struct History<'a> {
     pub t: Settings,
     pub pool: Vec<(u32, u32)>,
     adds: usize,
+    /// So many calls of a hundred that name one of the parties name party 1.
+    lean: usize,
     messages: usize,
     writings: usize,
     pub imports: usize,
@@ -90,8 +109,11 @@ pub struct History<'a> {
     /// The dump or the day whose stream the table has, if one has begun.
     pub feeding: Option<Feeding>,
     pub turns: Turns,
-    /// Which of the calls with other sizes is next.
+    /// Which of the calls with other sizes is next, and which of those about marks.
     other_sizes: usize,
+    edges: usize,
+    /// Which of the histories this is.
+    pub number: u64,
     /// The lengths of which a route was added after the clear, the lowest bit for length 1.
     lengths: u32,
     made: u64,
@@ -111,6 +133,7 @@ pub fn run(
     let t = settings(&mut random, crowded, &few);
     let pool = pool(&mut random, crowded, &few);
     let adds = random.pick(&[35, 50, 65, 80]);
+    let lean = random.pick(&[50, 50, 50, 20, 80]);
     let (messages, writings, imports, replays) = match history % TALKATIVE {
         0 => (TALKATIVE_MESSAGES, TALKATIVE_WRITINGS, IMPORTS, REPLAYS),
         1 => (MESSAGES, WRITINGS, TALKATIVE_IMPORTS, 0),
@@ -127,6 +150,7 @@ pub fn run(
         t,
         pool,
         adds,
+        lean,
         messages,
         writings,
         imports,
@@ -134,6 +158,8 @@ pub fn run(
         feeding: None,
         turns: Turns { counts: turn, figures: turn, spoils: turn },
         other_sizes: history as usize % (WITH_SETTINGS * KINDS.len()) * OTHER_SIZES,
+        edges: history as usize % EDGE_TURNS * EDGES_MET,
+        number: history,
         lengths: 0,
         made: 0,
     };
@@ -228,13 +254,13 @@ fn pool(random: &mut Random, crowded: bool, few: &[u32]) -> Vec<(u32, u32)> {
     pool
 }
 
-/// What a message's routes are drawn from.
-pub fn source<'a>(pool: &'a [(u32, u32)], pair: &'a Pair) -> Source<'a> {
-    Source { pool, stored: pair.routes.as_ref().map_or(&[], |routes| routes.list()) }
+/// What the routes of a party's message are drawn from.
+pub fn source<'a>(pool: &'a [(u32, u32)], pair: &'a Pair, party: u32) -> Source<'a> {
+    Source { party, pool, stored: pair.routes.as_ref().map_or(&[], |routes| routes.list()) }
 }
 
 /// An address that a route of the pool matches, or nearly.
-fn random_address(random: &mut Random, pool: &[(u32, u32)]) -> u32 {
+pub fn random_address(random: &mut Random, pool: &[(u32, u32)]) -> u32 {
     let (prefix, length) = random.pick(pool);
     match random.below(10) {
         0 => random.word(),
@@ -257,13 +283,12 @@ impl History<'_> {
             6..=7 => self.random.below(calls),
             _ => 0,
         };
-        let mut pair = self.random_memory(Area::Old);
-        if damaged_from > 0 {
-            self.call(&mut pair, Call::Clear)?;
-            pair.routes = Some(Routes::new(self.t, self.manner.slip));
-            if self.random.percent(EVERY_LENGTH) {
-                self.add_every_length(&mut pair)?;
-            }
+        let mut pair = match damaged_from {
+            0 => self.random_memory(Area::Old),
+            _ => self.cleared(Area::Old)?,
+        };
+        if damaged_from > 0 && self.random.percent(EVERY_LENGTH) {
+            self.add_every_length(&mut pair)?;
         }
         for made in 0..calls {
             if made == damaged_from {
@@ -271,6 +296,9 @@ impl History<'_> {
                 self.damage_much(&mut pair);
             } else if made > damaged_from && self.random.percent(4) {
                 self.damage(&mut pair);
+            }
+            if made > damaged_from && self.random.percent(EDGE_CALLS) {
+                self.edge_call(&mut pair)?;
             }
             let damaged = made > damaged_from;
             if made % (calls / OTHER_SIZES) == 0 {
@@ -304,7 +332,7 @@ impl History<'_> {
             self.rebuild(&mut pair)?;
         }
         self.tally.count_history(&self.t.d, self.lengths);
-        Ok(())
+        self.two_histories()
     }
 
     /// A table that holds nothing one could count on.
@@ -326,11 +354,33 @@ impl History<'_> {
         Pair::new(self.library, area, self.t, self.manner.slip, byte, word)
     }
 
+    /// A table that has been cleared, whose stored routes are known from then on.
+    pub fn cleared(&mut self, area: Area) -> Result<Pair, Failure> {
+        let mut pair = self.random_memory(area);
+        self.call(&mut pair, Call::Clear)?;
+        pair.routes = Some(Routes::new(self.t, self.manner.slip));
+        Ok(pair)
+    }
+
+    /// One of the parties.
+    pub fn known_party(&mut self) -> u32 {
+        u32::from(self.random.percent(self.lean))
+    }
+
+    /// One of the parties, or now and then one that there is not.
+    fn party(&mut self) -> u32 {
+        match self.random.percent(STRANGERS) {
+            true => parties::stranger(&mut self.random),
+            false => self.known_party(),
+        }
+    }
+
     fn call(&mut self, pair: &mut Pair, call: Call) -> Result<u64, Failure> {
         let (t, lent) = (self.t, pair.lent(call));
         self.call_with(pair, &t, lent, call)
     }
 
+    /// Makes a call, now and then after a party that there is not has made the same one.
     pub fn call_with<'a>(
         &mut self,
         pair: &mut Pair,
@@ -338,22 +388,70 @@ impl History<'_> {
         lent: Lent,
         call: impl Into<AnyCall<'a>>,
     ) -> Result<u64, Failure> {
-        let call = call.into();
+        self.call_after(STRANGERS_FIRST, pair, t, lent, call.into())
+    }
+
+    /// The same so many times of a hundred.
+    pub fn call_after(
+        &mut self,
+        strangers: usize,
+        pair: &mut Pair,
+        t: &Settings,
+        lent: Lent,
+        call: AnyCall,
+    ) -> Result<u64, Failure> {
+        if call.party().is_none_or(|party| party > 1) || !self.random.percent(strangers) {
+            return self.call_once(pair, t, lent, call);
+        }
+        let stranger = self.call_by_stranger(pair, t, lent, call)?;
+        let answer = self.call_once(pair, t, lent, call)?;
+        self.tally.parties.count_stranger(call, stranger, answer);
+        Ok(answer)
+    }
+
+    fn call_by_stranger(
+        &mut self,
+        pair: &mut Pair,
+        t: &Settings,
+        lent: Lent,
+        call: AnyCall,
+    ) -> Result<u64, Failure> {
+        let party = parties::stranger(&mut self.random);
+        match call {
+            AnyCall::One(call) => self.call_once(pair, t, lent, call.by(party).into()),
+            AnyCall::List(list) => self.call_once(pair, t, lent, (&List { party, ..list.clone() }).into()),
+            AnyCall::Message(message) => {
+                self.call_once(pair, t, lent, (&Message { party, ..message.clone() }).into())
+            }
+            AnyCall::Chunk(chunk) => {
+                self.call_once(pair, t, lent, (&Chunk { party, ..chunk.clone() }).into())
+            }
+            AnyCall::Writing(_) | AnyCall::End(_) => unreachable!("these name no party"),
+        }
+    }
+
+    fn call_once(
+        &mut self,
+        pair: &mut Pair,
+        t: &Settings,
+        lent: Lent,
+        call: AnyCall,
+    ) -> Result<u64, Failure> {
         if self.manner.show {
             say!("call {}: {}", self.made, told(t, lent, call));
         }
-        let (met, answered) = match call {
-            AnyCall::One(call) => {
-                let met = if *t == self.t { replacing::met(pair, t, call) } else { None };
-                (met, pair.call(self.library, t, lent, call))
-            }
-            AnyCall::List(list) => {
-                (None, pair.call_list(self.library, t, lent, list).map(|listed| listed.answer))
-            }
-            AnyCall::Message(message) => (None, pair.call_message(self.library, t, lent, message)),
-            AnyCall::Writing(writing) => (None, pair.write(self.library, writing)),
-            AnyCall::Chunk(chunk) => (None, pair.call_chunk(self.library, t, lent, chunk)),
-            AnyCall::End(end) => (None, pair.end_stream(self.library, end)),
+        let own = *t == self.t;
+        let (met, held) = match call {
+            AnyCall::One(call) if own => (replacing::met(pair, t, call), Some(sharing::held(pair, t, call))),
+            _ => (None, None),
+        };
+        let answered = match call {
+            AnyCall::One(call) => pair.call(self.library, t, lent, call),
+            AnyCall::List(list) => pair.call_list(self.library, t, lent, list).map(|listed| listed.answer),
+            AnyCall::Message(message) => pair.call_message(self.library, t, lent, message),
+            AnyCall::Writing(writing) => pair.write(self.library, writing),
+            AnyCall::Chunk(chunk) => pair.call_chunk(self.library, t, lent, chunk),
+            AnyCall::End(end) => pair.end_stream(self.library, end),
         };
         let answer = answered.map_err(|difference| self.failure(t, lent, call, difference))?;
         if self.manner.show {
@@ -365,11 +463,17 @@ impl History<'_> {
         match call {
             AnyCall::Chunk(chunk) => {
                 let right = pair.lent(call);
-                let wrong = *t != self.t || lent.counters != right.counters || lent.slots != right.slots;
+                let wrong = !own || lent.counters != right.counters || lent.slots != right.slots;
                 self.tally.count_chunk(chunk, wrong, answer, &pair.stream);
             }
             AnyCall::End(end) => self.tally.ends.count(end, answer),
             _ => {}
+        }
+        if let (AnyCall::One(call), Some(held)) = (call, held) {
+            let probed = self.random.below(PROBED) == 0;
+            if let Some(met) = sharing::met(pair, t, &held, call, answer, probed) {
+                self.tally.parties.count_met(&met);
+            }
         }
         if let (AnyCall::One(Call::Add { length: length @ 1.., .. }), 0, true) =
             (call, answer, pair.routes.is_some())
@@ -403,11 +507,13 @@ impl History<'_> {
     /// Adds a route of each length, each within the one before it or anywhere.
     fn add_every_length(&mut self, pair: &mut Pair) -> Result<(), Failure> {
         let (mut address, within) = (self.random_address(), self.random.percent(50));
+        let party = self.known_party();
         for length in 1..=32 {
             if !within {
                 address = self.random.word();
             }
-            self.call(pair, Call::Add { prefix: rules::prefix(length, address), length, hop: length })?;
+            let prefix = rules::prefix(length, address);
+            self.call(pair, Call::Add { party, prefix, length, hop: length })?;
         }
         Ok(())
     }
@@ -415,13 +521,16 @@ impl History<'_> {
     fn random_call(&mut self, pair: &Pair) -> Call {
         match self.random.below(1000) {
             0..=2 => Call::Clear,
-            3..=529 => self.random_update(pair),
-            530..=899 => Call::Lookup { address: self.random_address() },
+            3..=529 => self.random_update(pair, None),
+            530..=899 => Call::Lookup { party: self.party(), address: self.random_address() },
             _ => Call::Vector { address: self.random_address() },
         }
     }
 
-    fn random_update(&mut self, pair: &Pair) -> Call {
+    /// An update of this party, or of any. One that withdraws or changes a stored route is most often that party's
+    /// whose it is.
+    pub fn random_update(&mut self, pair: &Pair, party: Option<u32>) -> Call {
+        let any = self.party();
         let hop = match self.random.percent(30) {
             true => self.random.pick(&HOPS),
             false => self.random.word() & 0xffff,
@@ -429,37 +538,40 @@ impl History<'_> {
         if self.random.percent(self.adds) {
             let (prefix, length) = match self.random.below(100) {
                 0..=69 => self.random.pick(&self.pool),
-                70..=84 => self.stored_or_of_pool(pair),
+                70..=84 => self.stored_or_of_pool(pair, None).1,
                 _ => {
                     let length = self.random.within(0, 32);
                     (rules::prefix(length, self.random.word()), length)
                 }
             };
-            return Call::Add { prefix, length, hop };
+            return Call::Add { party: party.unwrap_or(any), prefix, length, hop };
         }
-        let (prefix, length) = match self.random.percent(75) {
-            true => self.stored_or_of_pool(pair),
-            false => self.random.pick(&self.pool),
+        let (owner, (prefix, length)) = match self.random.percent(75) {
+            true => self.stored_or_of_pool(pair, party),
+            false => (any, self.random.pick(&self.pool)),
         };
+        let party = party.unwrap_or(if self.random.percent(75) { owner } else { any });
         if self.random.percent(70) {
-            Call::Withdraw { prefix, length }
+            Call::Withdraw { party, prefix, length }
         } else {
-            Call::Change { prefix, length, hop }
+            Call::Change { party, prefix, length, hop }
         }
     }
 
-    /// A stored route, where it is known which are, or else one of the pool.
-    fn stored_or_of_pool(&mut self, pair: &Pair) -> (u32, u32) {
+    /// A stored route and whose it is, where it is known which are, or else one of the pool and a party. If a party
+    /// is told, its own are taken oftener.
+    fn stored_or_of_pool(&mut self, pair: &Pair, party: Option<u32>) -> (u32, (u32, u32)) {
         match pair.routes.as_ref().map_or(&[][..], |routes| routes.list()) {
-            [] => self.random.pick(&self.pool),
+            [] => (self.party(), self.random.pick(&self.pool)),
             stored => {
-                let route = &stored[self.random.below(stored.len())];
-                (route.prefix, route.length)
+                let two = [(); 2].map(|_| &stored[self.random.below(stored.len())]);
+                let route = two.iter().find(|route| Some(route.party) == party).unwrap_or(&two[0]);
+                (route.party, (route.prefix, route.length))
             }
         }
     }
 
-    fn random_address(&mut self) -> u32 {
+    pub fn random_address(&mut self) -> u32 {
         random_address(&mut self.random, &self.pool)
     }
 
@@ -467,18 +579,21 @@ impl History<'_> {
     fn spoilt_call(&mut self, pair: &mut Pair, mut call: Call) -> Result<u64, Failure> {
         let right = pair.lent(call);
         let (mut t, mut lent) = (self.t, right);
+        let route_only = self.random.percent(30);
         for _ in 0..self.random.within(1, 3) {
-            if !self.spoil_table(right, &mut t, &mut lent) {
+            if self.random.percent(10) {
+                call = call.by(parties::stranger(&mut self.random));
+            } else if route_only || !self.spoil_table(right, &mut t, &mut lent) {
                 self.spoil_route(&mut call);
             }
         }
-        self.call_with(pair, &t, lent, call)
+        self.call_after(STRANGERS_FIRST_OF_WRONG, pair, &t, lent, call.into())
     }
 
     /// A call with a list of addresses; every third has something wrong about it.
     fn list_call(&mut self, pair: &mut Pair, damaged: bool) -> Result<(), Failure> {
-        let pool = &self.pool;
-        let mut list = random_lists::list(&mut self.random, |random| random_address(random, pool));
+        let (party, pool) = (self.party(), &self.pool);
+        let mut list = random_lists::list(&mut self.random, party, |random| random_address(random, pool));
         let right = pair.lent(&list);
         let (mut t, mut lent) = (self.t, right);
         if self.random.percent(35) {
@@ -498,8 +613,8 @@ impl History<'_> {
 
     /// A message of a neighbour; every other one has something wrong about it.
     fn message_call(&mut self, pair: &mut Pair, damaged: bool) -> Result<(), Failure> {
-        let spoilt = self.random.percent(50);
-        let source = source(&self.pool, pair);
+        let (party, spoilt) = (self.party(), self.random.percent(50));
+        let source = source(&self.pool, pair, party);
         let message = random_messages::message(&mut self.random, &source, spoilt);
         let right = pair.lent(&message);
         let (mut t, mut lent) = (self.t, right);
@@ -531,24 +646,24 @@ impl History<'_> {
 
     /// One of the calls that have settings, by its number.
     fn other_sizes_call(&mut self, pair: &mut Pair, call: usize, kind: Kind) -> Result<(), Failure> {
-        let (prefix, length) = self.stored_or_of_pool(pair);
+        let (party, (prefix, length)) = self.stored_or_of_pool(pair, None);
         let (address, hop) = (self.random_address(), self.random.pick(&HOPS));
-        let list = random_lists::list(&mut self.random, |_| address);
-        let message = random_messages::message(&mut self.random, &source(&self.pool, pair), false);
+        let list = random_lists::list(&mut self.random, party, |_| address);
+        let message = random_messages::message(&mut self.random, &source(&self.pool, pair, party), false);
         let of = if call == 8 { Of::Dump } else { Of::Day };
         let under_way = self.feeding.as_ref().is_some_and(|feeding| feeding.of() == of);
         if call >= 8 && (!under_way || ended(&pair.stream)) {
             self.begin_feeding(pair, of, false);
         }
         let bytes = self.feeding.as_ref().map_or(Vec::new(), |feeding| feeding.chunk(&mut self.random));
-        let chunk = self.chunk(pair, of, bytes);
+        let chunk = self.chunk(pair, party, of, bytes);
         let call = match call {
             0 => AnyCall::One(Call::Clear),
-            1 => AnyCall::One(Call::Add { prefix, length, hop }),
-            2 => AnyCall::One(Call::Withdraw { prefix, length }),
-            3 => AnyCall::One(Call::Change { prefix, length, hop }),
+            1 => AnyCall::One(Call::Add { party, prefix, length, hop }),
+            2 => AnyCall::One(Call::Withdraw { party, prefix, length }),
+            3 => AnyCall::One(Call::Change { party, prefix, length, hop }),
             4 => AnyCall::One(Call::Vector { address }),
-            5 => AnyCall::One(Call::Lookup { address }),
+            5 => AnyCall::One(Call::Lookup { party, address }),
             6 => AnyCall::List(&list),
             7 => AnyCall::Message(&message),
             _ => AnyCall::Chunk(&chunk),
@@ -556,21 +671,22 @@ impl History<'_> {
         let (mut t, mut lent) = (self.t, pair.lent(call));
         other_sizes::make(&mut self.random, kind, &mut t, &mut lent);
         match call {
-            AnyCall::Chunk(chunk) => self.take(pair, &t, lent, chunk),
+            AnyCall::Chunk(chunk) => self.take(pair, &t, lent, chunk, STRANGERS_FIRST),
             _ => self.call_with(pair, &t, lent, call).map(|_| ()),
         }
     }
 
     /// The message that withdraws a route; what was written is then a message too.
     fn write(&mut self, pair: &mut Pair) -> Result<(), Failure> {
-        let writing = random_messages::writing(&mut self.random, &source(&self.pool, pair));
+        let party = self.party();
+        let writing = random_messages::writing(&mut self.random, &source(&self.pool, pair, party));
         let lent = pair.lent(&writing);
         let t = self.t;
         if self.call_with(pair, &t, lent, &writing)? != 0 {
             return Ok(());
         }
         let bytes = self.library.room(&writing).to_vec();
-        let message = Message { bytes, offset: writing.offset, hops: Vec::new(), hops_offset: 0 };
+        let message = Message { party, bytes, offset: writing.offset, hops: Vec::new(), hops_offset: 0 };
         self.call_with(pair, &t, lent, &message)?;
         Ok(())
     }
@@ -620,7 +736,7 @@ impl History<'_> {
     fn spoil_route(&mut self, call: &mut Call) {
         let which = self.random.below(3);
         if let Call::Add { prefix, length, .. }
-        | Call::Withdraw { prefix, length }
+        | Call::Withdraw { prefix, length, .. }
         | Call::Change { prefix, length, .. } = call
         {
             match which {
@@ -656,15 +772,64 @@ impl History<'_> {
         }
     }
 
-    /// Damages one counter or slot of a route of the pool, or the default.
+    /// Writes a mark at which something changes into a slot of a route or into a default word, and makes a call that
+    /// reads it.
+    fn edge_call(&mut self, pair: &mut Pair) -> Result<(), Failure> {
+        let turn = self.edges;
+        self.edges += 1;
+        let (party, turn) = ((turn % PARTIES) as u32, turn / PARTIES);
+        let (reader, turn) = (turn % READERS.len(), turn / READERS.len());
+        let (place, turn) = (turn % PLACES.len(), turn / PLACES.len());
+        let mark = EDGES[turn % EDGES.len()];
+        let (prefix, length) = match place {
+            0 => self.longer_than_0(),
+            _ => (0, 0),
+        };
+        match place {
+            0 => self.put_mark(pair, prefix, length, mark),
+            _ => pair.damage_word(self.library, rules::default_word(&self.t, place as u32 - 1), mark),
+        }
+        let hop = self.random.pick(&HOPS);
+        let call = match reader {
+            0 if place == 0 => Call::Lookup { party, address: prefix },
+            0 => Call::Lookup { party, address: self.random.word() },
+            1 => Call::Add { party, prefix, length, hop },
+            2 => Call::Withdraw { party, prefix, length },
+            _ => Call::Change { party, prefix, length, hop },
+        };
+        self.call(pair, call).map(|_| ())
+    }
+
+    /// A route of the pool that is no default, if one is found.
+    fn longer_than_0(&mut self) -> (u32, u32) {
+        let some = [(); 8].map(|_| self.random.pick(&self.pool));
+        some.into_iter().find(|(_, length)| *length > 0).unwrap_or((0, 1))
+    }
+
+    /// Puts a prefix under a mark into a slot of its bucket, the first one oftenest, and lets its filter claim it.
+    fn put_mark(&mut self, pair: &mut Pair, prefix: u32, length: u32, mark: u32) {
+        let any = self.random.below(self.t.s as usize);
+        let slot = rules::first_slot(&self.t, length, prefix) + self.random.pick(&[0, 0, any]);
+        pair.damage_word(self.library, 2 * slot, prefix);
+        pair.damage_word(self.library, 2 * slot + 1, mark);
+        for position in rules::positions(&self.t, length, prefix) {
+            let at = rules::counter_at(&self.t, length, position);
+            if pair.counter(at) == 0 {
+                pair.damage_counter(self.library, at, self.random.pick(&[1, 2, 8]));
+            }
+        }
+    }
+
+    /// Damages one counter or slot of a route of the pool, or a default.
     fn damage(&mut self, pair: &mut Pair) {
         let (prefix, length) = self.random.pick(&self.pool);
         let mark = match self.random.percent(50) {
             true => self.random.pick(&MARKS),
-            false => self.random.within(1, 65_536),
+            false => self.random.within(1, 131_072),
         };
         if length == 0 || self.random.percent(2) {
-            return pair.damage_word(self.library, rules::slot_words(&self.t) - 1, mark);
+            let word = rules::default_word(&self.t, self.random.below(PARTIES) as u32);
+            return pair.damage_word(self.library, word, mark);
         }
         if self.random.percent(50) {
             let step = self.random.below(self.t.k as usize);
@@ -690,16 +855,15 @@ impl History<'_> {
         for i in (1..routes.len()).rev() {
             routes.swap(i, self.random.below(i + 1));
         }
-        let mut new = self.random_memory(Area::New);
-        self.call(&mut new, Call::Clear)?;
-        new.routes = Some(Routes::new(self.t, self.manner.slip));
+        let mut new = self.cleared(Area::New)?;
         for route in routes {
-            let add = Call::Add { prefix: route.prefix, length: route.length, hop: route.hop };
+            let Route { party, prefix, length, hop, .. } = route;
+            let add = Call::Add { party, prefix, length, hop };
             let refusal = self.call(&mut new, add)?;
             self.agree(&new, add, refusal, 0)?;
         }
-        for _ in 0..8 {
-            let call = Call::Lookup { address: self.random_address() };
+        for number in 0..12 {
+            let call = Call::Lookup { party: number % 2, address: self.random_address() };
             let (before, after) = (self.call(old, call)?, self.call(&mut new, call)?);
             self.agree(&new, call, after, before)?;
         }

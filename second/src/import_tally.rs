@@ -31,7 +31,7 @@ impl ImportTally {
     pub fn count(&mut self, chunk: &Chunk, wrong: bool, answer: u64, after: &Stream) {
         self.streams.count(chunk, wrong, answer, after);
         let (number, most) = (answer >> 48, chunk.counts.iter().max().copied().unwrap_or(0));
-        if chunk.words[0] != 0 || number == 1 || number == 2 {
+        if chunk.words[0] != 0 || matches!(number, 1 | 2 | 15) {
             return;
         }
         if number == 19 {

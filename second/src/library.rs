@@ -2,7 +2,7 @@
 //! the same memory, so that what the library writes is seen here, and a call that brings that process
 //! down is told as any other difference.
 
-use crate::calls::{AnyCall, Call, Chunk, End, Lent, Of, Settings, Sizes, Writing};
+use crate::calls::{AnyCall, Call, Chunk, End, Lent, List, Of, Settings, Sizes, Writing};
 use crate::record_draft::{HEADER, MOST_BODY};
 use std::fs::{self, File, OpenOptions};
 use std::io::{self, Read, Write};
@@ -18,7 +18,7 @@ pub const MARGIN: usize = 64;
 /// of the largest table.
 pub const MOST_LENT_COUNTERS: usize = 40 * (1 << 11);
 const MOST_COUNTERS: usize = MOST_LENT_COUNTERS + 2 * MARGIN;
-const MOST_SLOTS: usize = 64 * (1 << 8) * 8 + 1 + 2 * MARGIN;
+const MOST_SLOTS: usize = 64 * (1 << 8) * 8 + 2 + 2 * MARGIN;
 
 /// One table's counters and then its slots.
 const AREA: usize = (MOST_COUNTERS + 4 * MOST_SLOTS).next_multiple_of(4096);
@@ -169,6 +169,11 @@ impl Library {
         self.beside(Beside::Room, MARGIN + writing.offset, writing.room.len())
     }
 
+    /// The results of a list, after a call.
+    pub fn results(&mut self, list: &List) -> &[u8] {
+        self.beside(Beside::Results, MARGIN + list.results_offset, list.results.len())
+    }
+
     /// Does a call in the library, on what is lent of an area after its margins.
     pub fn call<'a>(
         &mut self,
@@ -226,9 +231,11 @@ impl Library {
         let others = [t.e, t.s, t.a, t.b, t.c].map(u64::from);
         let memory = [counters, lent.counters, slots, lent.slots].map(|n| n as u64);
         let stream = stream.map(|n| n as u64);
-        let mut request = [0; 160];
+        let mut request = [0; 168];
         let settings = [u64::from(t.k)].into_iter().chain(sizes).chain(others);
-        let numbers = [number].into_iter().chain(settings).chain(memory).chain(beside).chain(stream);
+        let party = [u64::from(call.party().unwrap_or(0))];
+        let numbers =
+            [number].into_iter().chain(settings).chain(memory).chain(party).chain(beside).chain(stream);
         for (bytes, number) in request.chunks_exact_mut(8).zip(numbers) {
             bytes.copy_from_slice(&number.to_ne_bytes());
         }
@@ -254,11 +261,11 @@ fn place(which: Beside, offset: usize) -> usize {
 fn numbers(call: Call) -> (u64, [u64; 4]) {
     let (number, asked, length, hop) = match call {
         Call::Clear => (0, 0, 0, 0),
-        Call::Add { prefix, length, hop } => (1, prefix, length, hop),
-        Call::Withdraw { prefix, length } => (2, prefix, length, 0),
-        Call::Change { prefix, length, hop } => (3, prefix, length, hop),
+        Call::Add { prefix, length, hop, .. } => (1, prefix, length, hop),
+        Call::Withdraw { prefix, length, .. } => (2, prefix, length, 0),
+        Call::Change { prefix, length, hop, .. } => (3, prefix, length, hop),
         Call::Vector { address } => (4, address, 0, 0),
-        Call::Lookup { address } => (5, address, 0, 0),
+        Call::Lookup { address, .. } => (5, address, 0, 0),
     };
     (number, [asked, length, hop, 0].map(u64::from))
 }

@@ -35,6 +35,8 @@ mod pair;
 mod paper_days;
 mod paper_dumps;
 mod paper_streams;
+mod parties;
+mod party_tally;
 mod places;
 mod program;
 mod random;
@@ -56,6 +58,7 @@ mod replay_tally;
 mod replays;
 mod routes;
 mod rules;
+mod sharing;
 mod slips;
 mod spoilt_days;
 mod spoilt_messages;
@@ -65,10 +68,12 @@ mod streams;
 mod tally;
 mod text;
 mod told;
+mod two_histories;
 mod worked;
 mod worked_days;
 mod worked_imports;
 mod worked_messages;
+mod worked_parties;
 mod worked_sizes;
 mod writing;
 
@@ -103,10 +108,11 @@ library; it is the host beside this one unless told.";
 /// How many lines are compared unless told.
 const LINES: u64 = 6000;
 
-/// From so many calls on, a run must have met every refusal, all that adds of stored prefixes can meet, what
-/// messages, dumps and recorded days can be and have wrong about them, every place where a stream can be cut, every
-/// figure at its limit, and in each call all that can be other about the filters' sizes.
-const MANY_CALLS: u64 = 100_000;
+/// From so many calls on, a run must have met every refusal by each party, all that adds of stored prefixes can meet,
+/// and calls of the other party's routes and of marks, what messages, dumps and recorded days can be and have wrong
+/// about them, every place where a stream can be cut, every figure at its limit, in each call all that can be other
+/// about the sizes, and two histories with one party's calls the same.
+const MANY_CALLS: u64 = 200_000;
 
 /// A slip that so many histories do not show is not found.
 const HISTORIES_TO_A_SLIP: u64 = 2_000;

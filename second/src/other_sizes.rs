@@ -1,11 +1,11 @@
-//! Calls whose list of sizes, or whose counters, are others than the table's own: which kinds there are, how each
-//! is made, and which a call is of, so that a run can show that every call has met them all.
+//! Calls whose list of sizes, counters or slots are others than the table's own: which kinds there are, how each is
+//! made, and which a call is of, so that a run can show that every call has met them all.
 
 use crate::calls::{Lent, Settings, Sizes};
 use crate::library::MOST_LENT_COUNTERS;
 use crate::random::Random;
 use crate::random_sizes::{GREATEST, LEAST};
-use crate::rules::counter_bytes;
+use crate::rules::{counter_bytes, slot_words};
 use std::fmt;
 
 /// Where in a list a value stands.
@@ -33,11 +33,13 @@ pub enum Kind {
     ByteLess,
     FilterMore,
     FilterLess,
+    /// The table's list and counters, beside slots that have room for one party's default only.
+    OneDefault,
     /// Another good list, which asks for as many counters.
     SameSum,
 }
 
-pub const KINDS: [Kind; 30] = [
+pub const KINDS: [Kind; 31] = [
     Kind::Value(At::First, 3),
     Kind::Value(At::First, 12),
     Kind::Value(At::First, 0),
@@ -67,6 +69,7 @@ pub const KINDS: [Kind; 30] = [
     Kind::ByteLess,
     Kind::FilterMore,
     Kind::FilterLess,
+    Kind::OneDefault,
     Kind::SameSum,
 ];
 
@@ -86,6 +89,7 @@ impl fmt::Display for Kind {
             Kind::ByteLess => write!(f, "a byte less of counters"),
             Kind::FilterMore => write!(f, "a filter more of counters"),
             Kind::FilterLess => write!(f, "a filter less of counters"),
+            Kind::OneDefault => write!(f, "slots with room for one default"),
             Kind::SameSum => write!(f, "another list of the same sum"),
         }
     }
@@ -95,8 +99,8 @@ impl fmt::Display for Kind {
 /// other than the table's.
 pub fn met(table: &Settings, right: Lent, t: &Settings, lent: Lent) -> [bool; KINDS.len()] {
     let own = t.d == table.d && lent.counters == right.counters;
-    let else_right = Settings { d: table.d, ..*t } == *table && lent.slots == right.slots;
-    match else_right && !own {
+    let else_right = Settings { d: table.d, ..*t } == *table && own != (lent.slots == right.slots);
+    match else_right {
         true => KINDS.map(|kind| is(kind, table, right, t, lent)),
         false => [false; KINDS.len()],
     }
@@ -131,6 +135,7 @@ fn is(kind: Kind, table: &Settings, right: Lent, t: &Settings, lent: Lent) -> bo
         Kind::ByteLess => t.d == table.d && lent.counters + 1 == right.counters,
         Kind::FilterMore => t.d == table.d && filter(lent.counters.saturating_sub(right.counters)),
         Kind::FilterLess => t.d == table.d && filter(right.counters.saturating_sub(lent.counters)),
+        Kind::OneDefault => lent.slots + word(t, right.slots) == right.slots,
         Kind::SameSum => t.d != table.d && fits_own && counted(own.len()) && fits,
     }
 }
@@ -167,8 +172,14 @@ pub fn make(random: &mut Random, kind: Kind, t: &mut Settings, lent: &mut Lent) 
         Kind::ByteLess => lent.counters -= 1,
         Kind::FilterMore => lent.counters += 1 << random.pick(own.values()),
         Kind::FilterLess => lent.counters -= 1 << random.pick(own.values()),
+        Kind::OneDefault => lent.slots -= word(t, lent.slots),
         Kind::SameSum => t.d = same_sum(random, &own),
     }
+}
+
+/// How much of so many slots, in words or in bytes, one word is.
+fn word(t: &Settings, slots: usize) -> usize {
+    slots / slot_words(t)
 }
 
 /// Makes a list bad, in any way; the counters stay.

@@ -27,6 +27,8 @@ pub struct Pair {
     pub routes: Option<Routes>,
     /// What the imports into this table and the replays over it are lent beside it.
     pub stream: StreamPair,
+    /// What the updates of the last call were answered, route by route, where the stored routes are known.
+    pub answered: Vec<u64>,
     pub slip: Option<Slip>,
 }
 
@@ -60,7 +62,7 @@ impl Pair {
         library.counters(area, counters.len()).copy_from_slice(&counters);
         library.slots(area, slots.len()).copy_from_slice(&slots);
         let stream = StreamPair::new(library, area);
-        Pair { t, area, counters, slots, sizes_offset: 0, routes: None, stream, slip }
+        Pair { t, area, counters, slots, sizes_offset: 0, routes: None, stream, answered: Vec::new(), slip }
     }
 
     /// Another table that holds the same, and so does what its imports and replays are lent.
@@ -75,6 +77,7 @@ impl Pair {
             sizes_offset: 0,
             routes: self.routes.clone(),
             stream: self.stream.copy(library, area),
+            answered: Vec::new(),
             slip: self.slip,
         }
     }
@@ -143,8 +146,8 @@ impl Pair {
         self.compare_memory(library)?;
         if listed.answer == 0 {
             let places = places(list, &listed.results);
-            self.compare_places(&places)?;
-            self.compare_lookups(library, t, lent, &places)?;
+            self.compare_places(list.party, &places)?;
+            self.compare_lookups(library, t, lent, list.party, &places)?;
         }
         Ok(listed)
     }
@@ -163,7 +166,8 @@ impl Pair {
         library.beside(Beside::Hops, hops_offset, hops.len()).copy_from_slice(&hops);
         let theirs = self.call_library(library, self.area, 0, t, lent, message)?;
         let (counters, slots) = (&mut self.counters[MARGIN..], &mut self.slots[MARGIN..]);
-        let ours = read_message(t, counters, slots, lent, &message.bytes, &message.hops, self.slip);
+        let Message { party, bytes: said, hops: known, .. } = message;
+        let ours = read_message(t, counters, slots, *party, lent, said, known, self.slip);
         same("answer", Answer::to(message, theirs), Answer::to(message, ours))?;
         let lent_bytes = &*library.beside(Beside::Message, message.offset, bytes.len());
         compare_lent("message byte", lent_bytes, &bytes)?;
@@ -250,7 +254,7 @@ impl Pair {
         let (counters, slots) = (&mut self.counters[MARGIN..], &mut self.slots[MARGIN..]);
         let lent_results = MARGIN..MARGIN + list.results.len();
         let own = &mut results[lent_results.clone()];
-        let ours = answer_list(t, counters, slots, lent, &list.addresses, own, self.slip);
+        let ours = answer_list(t, counters, slots, list.party, lent, &list.addresses, own, self.slip);
         same("answer", Answer::to(list, answer), Answer::to(list, ours))?;
         let lent_addresses = &*library.beside(Beside::Addresses, addresses_offset, addresses.len());
         compare_lent("address byte", lent_addresses, &addresses)?;
@@ -298,11 +302,12 @@ impl Pair {
             return Ok(());
         };
         let refusal = theirs >> 48;
-        if (1..=5).contains(&refusal) {
+        self.answered = vec![refusal];
+        if matches!(refusal, 1..=5 | 15) {
             return Ok(());
         }
         let listed = match call {
-            Call::Lookup { address } => routes.lookup(address),
+            Call::Lookup { party, address } => routes.lookup(party, address),
             Call::Vector { address } => routes.vector(address),
             update => routes.update(update) << 48,
         };
@@ -311,28 +316,30 @@ impl Pair {
 
     /// Holds an accepted message to the list of stored routes, in which its routes are single updates.
     fn compare_single_calls(&mut self, message: &Message, theirs: u64) -> Result<(), Difference> {
+        self.answered.clear();
         let Some(routes) = self.routes.as_mut().filter(|_| theirs >> 48 == 0) else {
             return Ok(());
         };
         let said = read(&message.bytes).ok();
-        let Some(calls) = said.and_then(|said| single_calls(said, &message.hops)) else {
+        let Some(calls) = said.and_then(|said| single_calls(message.party, said, &message.hops)) else {
             return Err(Difference("a message is accepted that cannot be read".to_string()));
         };
-        let all = calls.len();
-        let accepted = calls.into_iter().filter(|call| routes.update(*call) == 0).count();
-        let listed = ((all - accepted) << 12 | accepted) as u64;
+        self.answered = calls.into_iter().map(|call| routes.update(call)).collect();
+        let accepted = self.answered.iter().filter(|number| **number == 0).count();
+        let listed = ((self.answered.len() - accepted) << 12 | accepted) as u64;
         let (theirs, listed) = (Answer::to(message, theirs), Answer::to(message, listed));
         same("answer, held to the list of stored routes", theirs, listed)
     }
 
     /// Holds each answer of a list to the list of stored routes.
-    fn compare_places(&self, places: &[Place]) -> Result<(), Difference> {
+    fn compare_places(&self, party: u32, places: &[Place]) -> Result<(), Difference> {
         let Some(routes) = &self.routes else {
             return Ok(());
         };
         let mut known = HashMap::new();
         for place in places {
-            let listed = known.entry(place.address).or_insert_with_key(|address| routes.lookup(*address));
+            let listed =
+                known.entry(place.address).or_insert_with_key(|address| routes.lookup(party, *address));
             place.same("the stored routes", Parts::of_number(*listed))?;
         }
         Ok(())
@@ -344,12 +351,13 @@ impl Pair {
         library: &mut Library,
         t: &Settings,
         lent: Lent,
+        party: u32,
         places: &[Place],
     ) -> Result<(), Difference> {
         let mut some = vec![0, places.len() / 2, places.len().saturating_sub(1)];
         some.dedup();
         for place in some.into_iter().filter_map(|at| places.get(at)) {
-            let call = Call::Lookup { address: place.address };
+            let call = Call::Lookup { party, address: place.address };
             let number = self.call_library(library, self.area, 0, t, lent, call)?;
             same(&format!("refusal of a lookup of {}", dotted(place.address)), number >> 48, 0)?;
             place.same("a lookup", Parts::of_number(number))?;
@@ -357,7 +365,7 @@ impl Pair {
         Ok(())
     }
 
-    /// Holds the counters of each length to the list: they sum to K for each stored route.
+    /// Holds the counters of each length to the list: they sum to K for each stored route of either party.
     pub fn compare_sums(&self) -> Result<(), Difference> {
         let Some(routes) = &self.routes else {
             return Ok(());

@@ -16,12 +16,14 @@ pub struct PaperStream {
     ended: Option<u64>,
 }
 
-/// What a chunk adds to the counts or to the tally, and how many stored routes were announced again.
+/// What a chunk adds to the counts or to the tally, how many stored routes were announced again, and what each of
+/// its routes was answered.
 #[derive(Default)]
 pub struct More {
     pub counts: [u32; 3],
     pub tally: [u32; FIGURES],
     pub replaced: u32,
+    pub answered: Vec<u64>,
 }
 
 impl PaperStream {
@@ -44,8 +46,16 @@ impl PaperStream {
         self.ended.is_some()
     }
 
-    /// Takes a chunk: gives its answer, and what it adds.
-    pub fn take(&mut self, of: Of, routes: &mut Routes, hops: &[u32], chunk: &[u8]) -> (u64, More) {
+    /// Takes a chunk: gives its answer, and what it adds. The routes of the records that it ends are the party's that
+    /// it names, be it another than the one that began them.
+    pub fn take(
+        &mut self,
+        of: Of,
+        routes: &mut Routes,
+        party: u32,
+        hops: &[u32],
+        chunk: &[u8],
+    ) -> (u64, More) {
         let mut more = More::default();
         if let Some(ended) = self.ended {
             return (ended, more);
@@ -65,10 +75,9 @@ impl PaperStream {
             rest = next;
             let (subtype, body) = (u32::from(record[7]), &record[HEADER..]);
             let done = match (of, read) {
-                (Of::Dump, true) => paper_dumps::import(routes, hops, body, &mut more.counts),
+                (Of::Dump, true) => paper_dumps::import(routes, party, hops, body, &mut more),
                 (Of::Dump, false) => Ok(()),
-                (Of::Day, true) => paper_days::replay(routes, hops, subtype, body, &mut more.tally)
-                    .map(|replaced| more.replaced += replaced),
+                (Of::Day, true) => paper_days::replay(routes, party, hops, subtype, body, &mut more),
                 (Of::Day, false) => {
                     more.tally[SEEN] += 1;
                     Ok(())

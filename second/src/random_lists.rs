@@ -8,8 +8,8 @@ use crate::random::Random;
 /// Up to so many addresses of a list are new; the others repeat them.
 const MOST_NEW: usize = 100;
 
-/// A list of addresses that are drawn one by one, with results that hold anything.
-pub fn list(random: &mut Random, mut address: impl FnMut(&mut Random) -> u32) -> List {
+/// A party's list of addresses that are drawn one by one, with results that hold anything.
+pub fn list(random: &mut Random, party: u32, mut address: impl FnMut(&mut Random) -> u32) -> List {
     let count = match random.below(1000) {
         0..=79 => 0,
         80..=219 => 1,
@@ -32,7 +32,7 @@ pub fn list(random: &mut Random, mut address: impl FnMut(&mut Random) -> u32) ->
     let addresses = bytes_of(&addresses);
     let results = random.bytes(4 * addresses.len());
     let [addresses_offset, results_offset] = [(); 2].map(|_| random.below(4));
-    List { addresses, addresses_offset, results, results_offset }
+    List { party, addresses, addresses_offset, results, results_offset }
 }
 
 /// Makes the sizes wrong, of the results or of both; now and then they come out right.

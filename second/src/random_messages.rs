@@ -14,18 +14,20 @@ const MOST_BYTES: usize = 4096;
 /// So many messages of a thousand have a list of more than 65,536 next hops.
 const LONG_LISTS: usize = 20;
 
-/// The routes that a history is about, and those that are stored, where it is known which are.
+/// A party, the routes that a history is about, and those that are stored, where it is known which are.
 pub struct Source<'a> {
+    pub party: u32,
     pub pool: &'a [(u32, u32)],
     pub stored: &'a [Route],
 }
 
 impl Source<'_> {
-    /// A route; so many of a hundred are stored.
+    /// A route; so many of a hundred are stored, most of these by the party itself.
     fn route(&self, random: &mut Random, stored: usize) -> (u32, u32) {
         let chance = random.below(100);
         if chance < stored && !self.stored.is_empty() {
-            let route = &self.stored[random.below(self.stored.len())];
+            let two = [(); 2].map(|_| &self.stored[random.below(self.stored.len())]);
+            let route = two.iter().find(|route| route.party == self.party).unwrap_or(&two[0]);
             return (route.prefix, route.length);
         }
         if chance < 92 {
@@ -67,7 +69,7 @@ pub fn message(random: &mut Random, source: &Source, spoilt: bool) -> Message {
         spoil_bytes(random, &draft.layout(), &mut bytes);
     }
     let hops = hops(random, hop);
-    Message { bytes, offset: random.below(4), hops, hops_offset: random.below(4) }
+    Message { party: source.party, bytes, offset: random.below(4), hops, hops_offset: random.below(4) }
 }
 
 /// A good message, whose NEXT_HOP is this one, if it has any.

@@ -30,15 +30,16 @@ pub fn compare(library: &mut Library, file: &str) -> Result<String, String> {
         compare_reading(message).map_err(|what| format!("{file}, {}: {what}", message.name))?;
     }
     let (accepted, refused) =
-        feed_all(library, TABLE, &recorded).map_err(|what| format!("{file}, {what}"))?;
+        feed_all(library, TABLE, 0, &recorded).map_err(|what| format!("{file}, {what}"))?;
     let unequal = Settings { d: unequal(), ..TABLE };
-    let again = feed_all(library, unequal, &recorded).map_err(|what| format!("{file}, {what}"))?;
-    if again != (accepted, refused) {
-        let (accepted_too, refused_too) = again;
-        return Err(format!(
-            "{file}: routes accepted {accepted}, refused {refused}, and with unequal filters {accepted_too}, \
-             {refused_too}"
-        ));
+    for (t, party, told) in [(TABLE, 1, "for party 1"), (unequal, 0, "with unequal filters")] {
+        let again = feed_all(library, t, party, &recorded).map_err(|what| format!("{file}, {what}"))?;
+        if again != (accepted, refused) {
+            let (accepted_too, refused_too) = again;
+            return Err(format!(
+                "{file}: routes accepted {accepted}, refused {refused}, and {told} {accepted_too}, {refused_too}"
+            ));
+        }
     }
     Ok(format!("{} recorded messages: routes accepted {accepted}, refused {refused}", recorded.len()))
 }
@@ -51,8 +52,14 @@ fn unequal() -> Sizes {
     Sizes::of(&values)
 }
 
-/// Feeds all messages to a table that begins cleared. Gives how many routes are accepted and how many refused.
-fn feed_all(library: &mut Library, t: Settings, recorded: &[Recorded]) -> Result<(u64, u64), String> {
+/// Feeds all messages for one party to a table that begins cleared. Gives how many routes are accepted and how many
+/// refused.
+fn feed_all(
+    library: &mut Library,
+    t: Settings,
+    party: u32,
+    recorded: &[Recorded],
+) -> Result<(u64, u64), String> {
     let mut pair = Pair::new(library, Area::Old, t, None, || 7, || 7);
     let wrong = |name: &str, Difference(what): Difference| format!("{name}: {what}");
     let lent = pair.lent(Call::Clear);
@@ -61,7 +68,7 @@ fn feed_all(library: &mut Library, t: Settings, recorded: &[Recorded]) -> Result
     let hops: Vec<u32> = recorded.iter().filter_map(|message| message.said.next_hop).collect();
     let (mut accepted, mut refused) = (0, 0);
     for message in recorded {
-        let answer = feed(library, &t, &mut pair, message, &hops);
+        let answer = feed(library, &mut pair, party, message, &hops);
         let answer = answer.map_err(|difference| wrong(&message.name, difference))?;
         accepted += answer & 0xfff;
         refused += answer >> 12;
@@ -72,20 +79,22 @@ fn feed_all(library: &mut Library, t: Settings, recorded: &[Recorded]) -> Result
 /// Does a message in both, and looks up what it announces.
 fn feed(
     library: &mut Library,
-    t: &Settings,
     pair: &mut Pair,
+    party: u32,
     message: &Recorded,
     hops: &[u32],
 ) -> Result<u64, Difference> {
-    let bytes = message.bytes.clone();
-    let lent = Message { bytes, offset: 1, hops: hops.to_vec(), hops_offset: 0 };
-    let answer = pair.call_message(library, t, pair.lent(&lent), &lent)?;
+    let (t, bytes) = (*pair.settings(), message.bytes.clone());
+    let lent = Message { party, bytes, offset: 1, hops: hops.to_vec(), hops_offset: 0 };
+    let answer = pair.call_message(library, &t, pair.lent(&lent), &lent)?;
     if answer >> 48 != 0 {
         return Err(Difference(format!("it is refused as {}", answer >> 48)));
     }
     for (prefix, _) in &message.said.announced {
-        let call = Call::Lookup { address: *prefix };
-        pair.call(library, t, pair.lent(call), call)?;
+        for party in [0, 1] {
+            let call = Call::Lookup { party, address: *prefix };
+            pair.call(library, &t, pair.lent(call), call)?;
+        }
     }
     Ok(answer)
 }

@@ -40,8 +40,9 @@ struct Recorded {
     told: Vec<Told>,
 }
 
-/// What a day leaves: the tally and the table's memory.
+/// What a day of one party leaves: the tally and the table's memory.
 struct Left {
+    party: u32,
     tally: [u32; FIGURES],
     memory: (Vec<u8>, Vec<u32>),
 }
@@ -55,18 +56,26 @@ pub fn compare(library: &mut Library, file: &str) -> Result<String, String> {
     known.dedup();
     let some: Vec<u32> = known.iter().copied().step_by(3).collect();
     let mut tallies = Vec::new();
-    for (hops, sizes) in [(&known[..], &SIZES[..]), (&some, &SIZES[3..]), (&[], &SIZES[4..])] {
-        let left = single_calls(library, &recorded, hops).map_err(|Difference(what)| wrong(what))?;
+    for (party, hops, sizes) in [
+        (0, &known[..], &SIZES[..]),
+        (1, &some, &SIZES[3..]),
+        (0, &[], &SIZES[4..]),
+        (1, &known, &SIZES[3..]),
+    ] {
+        let left = single_calls(library, &recorded, party, hops).map_err(|Difference(what)| wrong(what))?;
         for size in sizes {
             replay(library, &recorded, hops, &left, &|_| *size).map_err(wrong)?;
         }
         tallies.push(left);
     }
-    cut_each_record(library, &recorded, &known, &tallies[0]).map_err(wrong)?;
+    if tallies[0].tally != tallies[3].tally {
+        return Err(wrong("the single calls of the two parties are not counted the same".to_string()));
+    }
+    cut_each_record(library, &recorded, &known, [&tallies[0], &tallies[3]]).map_err(wrong)?;
     for (number, start) in recorded.starts.iter().enumerate().step_by(ENDED_AT) {
         let inside = start + number % 12 + 1;
-        for at in [*start, inside.min(recorded.bytes.len())] {
-            cut_in_two(library, &recorded, &known, &tallies[0], at).map_err(wrong)?;
+        for (left, at) in [(&tallies[0], *start), (&tallies[3], inside.min(recorded.bytes.len()))] {
+            cut_in_two(library, &recorded, &known, left, at).map_err(wrong)?;
         }
     }
     let [seen, applied, accepted] = [SEEN, APPLIED, ACCEPTED].map(|which| tallies[0].tally[which]);
@@ -172,7 +181,12 @@ fn routes(text: &str) -> Result<Vec<Line>, &str> {
 
 /// Does what bgpdump tells by single calls, and counts their answers: an UPDATE that announces routes is left out if
 /// its next hop is not in the list.
-fn single_calls(library: &mut Library, recorded: &Recorded, hops: &[u32]) -> Result<Left, Difference> {
+fn single_calls(
+    library: &mut Library,
+    recorded: &Recorded,
+    party: u32,
+    hops: &[u32],
+) -> Result<Left, Difference> {
     let mut pair = cleared(library, Area::New)?;
     let mut tally = [0; FIGURES];
     tally[SEEN] = recorded.starts.len() as u32 - 1;
@@ -182,9 +196,8 @@ fn single_calls(library: &mut Library, recorded: &Recorded, hops: &[u32]) -> Res
             continue;
         };
         tally[APPLIED] += 1;
-        let withdraw = |(prefix, length): &(u32, u32)| Call::Withdraw { prefix: *prefix, length: *length };
-        let add =
-            |(prefix, length): &(u32, u32)| Call::Add { prefix: *prefix, length: *length, hop: hop as u32 };
+        let withdraw = |&(prefix, length): &(u32, u32)| Call::Withdraw { party, prefix, length };
+        let add = |&(prefix, length): &(u32, u32)| Call::Add { party, prefix, length, hop: hop as u32 };
         for call in told.withdrawn.iter().map(withdraw).chain(told.announced.iter().map(add)) {
             match pair.call(library, &TABLE, pair.lent(call), call)? >> 48 {
                 0 => tally[ACCEPTED] += 1,
@@ -192,7 +205,7 @@ fn single_calls(library: &mut Library, recorded: &Recorded, hops: &[u32]) -> Res
             }
         }
     }
-    Ok(Left { tally, memory: pair.memory() })
+    Ok(Left { party, tally, memory: pair.memory() })
 }
 
 /// Replays a day in chunks whose sizes depend on where they begin, and holds tally and table to what the single calls
@@ -208,7 +221,7 @@ fn replay(
         let mut at = 0;
         while at < recorded.bytes.len() {
             let chunk = size(at).min(recorded.bytes.len() - at);
-            feed(library, &mut pair, &recorded.bytes[at..at + chunk], hops)?;
+            feed(library, &mut pair, left.party, &recorded.bytes[at..at + chunk], hops)?;
             at += chunk;
         }
         end(library, &mut pair, 0)?;
@@ -218,12 +231,12 @@ fn replay(
     compare_left(&fed.map_err(|Difference(what)| what)?, left)
 }
 
-/// Replays a day again and again, each record cut in two, at another place each time.
+/// Replays a day again and again, each record cut in two, at another place each time, for one party after the other.
 fn cut_each_record(
     library: &mut Library,
     recorded: &Recorded,
     hops: &[u32],
-    left: &Left,
+    left: [&Left; 2],
 ) -> Result<(), String> {
     let cut_at = |place: &dyn Fn(usize) -> usize| -> Vec<usize> {
         let cut = |two: &[usize]| two[0] + place(two[1] - two[0]).clamp(1, two[1] - two[0]);
@@ -234,7 +247,7 @@ fn cut_each_record(
     };
     let from_start = PLACES.iter().map(|place| cut_at(&|_| *place));
     let from_end = LAST_PLACES.iter().map(|place| cut_at(&|size| size - place));
-    for cuts in from_start.chain(from_end) {
+    for (cuts, left) in from_start.chain(from_end).zip(left.into_iter().cycle()) {
         replay(library, recorded, hops, left, &|at| next(&cuts, at))?;
     }
     Ok(())
@@ -251,10 +264,10 @@ fn cut_in_two(
     let (first, second) = recorded.bytes.split_at(at);
     let between = recorded.starts.contains(&at);
     let fed = cleared(library, Area::Old).and_then(|mut pair| {
-        feed(library, &mut pair, first, hops)?;
+        feed(library, &mut pair, left.party, first, hops)?;
         let mut ended = pair.copy(library, Area::New);
         end(library, &mut ended, if between { 0 } else { 17 })?;
-        feed(library, &mut pair, second, hops)?;
+        feed(library, &mut pair, left.party, second, hops)?;
         end(library, &mut pair, 0)?;
         Ok(pair)
     });
@@ -262,17 +275,25 @@ fn cut_in_two(
     compare_left(&pair, left)
 }
 
-fn feed(library: &mut Library, pair: &mut Pair, chunk: &[u8], hops: &[u32]) -> Result<(), Difference> {
-    let chunk = pair.stream.chunk(Of::Day, chunk.to_vec(), 1, Rc::from(hops), 0);
+fn feed(
+    library: &mut Library,
+    pair: &mut Pair,
+    party: u32,
+    chunk: &[u8],
+    hops: &[u32],
+) -> Result<(), Difference> {
+    let chunk = pair.stream.chunk(party, Of::Day, chunk.to_vec(), 1, Rc::from(hops), 0);
     let lent = pair.lent(&chunk);
     given(pair.call_chunk(library, &TABLE, lent, &chunk)?, 0)
 }
 
-/// Looks up the prefixes that bgpdump tells as announced.
+/// Looks up the prefixes that bgpdump tells as announced, for both parties.
 fn look_up(library: &mut Library, pair: &mut Pair, told: &[Told]) -> Result<(), Difference> {
     for (prefix, _) in told.iter().flat_map(|told| &told.announced) {
-        let call = Call::Lookup { address: *prefix };
-        pair.call(library, &TABLE, pair.lent(call), call)?;
+        for party in [0, 1] {
+            let call = Call::Lookup { party, address: *prefix };
+            pair.call(library, &TABLE, pair.lent(call), call)?;
+        }
     }
     Ok(())
 }

@@ -46,13 +46,15 @@ pub fn compare(library: &mut Library, file: &str) -> Result<String, String> {
     let some: Vec<u32> = known.iter().copied().step_by(3).collect();
     let mut counts = Vec::new();
     for hops in [&known[..], &some, &[]] {
-        for size in SIZES {
-            counts.push(import(library, &recorded, hops, &|_| size).map_err(wrong)?);
+        // One party after the other.
+        for (party, size) in [0, 1].into_iter().cycle().zip(SIZES) {
+            counts.push(import(library, &recorded, party, hops, &|_| size).map_err(wrong)?);
         }
-        counts.push(import(library, &recorded, hops, &|at| next(&starts, at)).map_err(wrong)?);
+        counts.push(import(library, &recorded, 1, hops, &|at| next(&starts, at)).map_err(wrong)?);
     }
     for at in 0..=recorded.bytes.len() {
-        cut_in_two(library, &recorded, &known, at, starts.contains(&at)).map_err(wrong)?;
+        let party = at as u32 % 2;
+        cut_in_two(library, &recorded, party, &known, at, starts.contains(&at)).map_err(wrong)?;
     }
     let [accepted, _, _] = counts[0];
     let [some_accepted, _, none] = counts[SIZES.len() + 1];
@@ -111,6 +113,7 @@ pub fn cleared(library: &mut Library, area: Area) -> Result<Pair, Difference> {
 fn import(
     library: &mut Library,
     recorded: &Recorded,
+    party: u32,
     hops: &[u32],
     size: &dyn Fn(usize) -> usize,
 ) -> Result<[u32; 3], String> {
@@ -118,7 +121,7 @@ fn import(
         let mut at = 0;
         while at < recorded.bytes.len() {
             let chunk = size(at).min(recorded.bytes.len() - at);
-            feed(library, &mut pair, &recorded.bytes[at..at + chunk], hops)?;
+            feed(library, &mut pair, party, &recorded.bytes[at..at + chunk], hops)?;
             at += chunk;
         }
         end(library, &mut pair, 0)?;
@@ -126,32 +129,39 @@ fn import(
         Ok(pair)
     });
     let pair = fed.map_err(|Difference(what)| what)?;
-    compare_routes(&pair, recorded, hops)
+    compare_routes(&pair, recorded, party, hops)
 }
 
 /// Imports a dump in two chunks. If it ended with the first, the number would be 0 where a record ends, else 17.
 fn cut_in_two(
     library: &mut Library,
     recorded: &Recorded,
+    party: u32,
     hops: &[u32],
     at: usize,
     between: bool,
 ) -> Result<(), String> {
     let (first, second) = recorded.bytes.split_at(at);
     let fed = cleared(library, Area::Old).and_then(|mut pair| {
-        feed(library, &mut pair, first, hops)?;
+        feed(library, &mut pair, party, first, hops)?;
         let mut ended = pair.copy(library, Area::New);
         end(library, &mut ended, if between { 0 } else { 17 })?;
-        feed(library, &mut pair, second, hops)?;
+        feed(library, &mut pair, party, second, hops)?;
         end(library, &mut pair, 0)?;
         Ok(pair)
     });
     let pair = fed.map_err(|Difference(what)| format!("cut after {at} bytes, {what}"))?;
-    compare_routes(&pair, recorded, hops).map(|_| ())
+    compare_routes(&pair, recorded, party, hops).map(|_| ())
 }
 
-fn feed(library: &mut Library, pair: &mut Pair, chunk: &[u8], hops: &[u32]) -> Result<(), Difference> {
-    let chunk = pair.stream.chunk(Of::Dump, chunk.to_vec(), 1, Rc::from(hops), 0);
+fn feed(
+    library: &mut Library,
+    pair: &mut Pair,
+    party: u32,
+    chunk: &[u8],
+    hops: &[u32],
+) -> Result<(), Difference> {
+    let chunk = pair.stream.chunk(party, Of::Dump, chunk.to_vec(), 1, Rc::from(hops), 0);
     let lent = pair.lent(&chunk);
     given(pair.call_chunk(library, &TABLE, lent, &chunk)?, 0)
 }
@@ -168,26 +178,29 @@ pub fn given(answer: u64, number: u64) -> Result<(), Difference> {
     Err(Difference(format!("{} is given, not {number}", answer >> 48)))
 }
 
-/// Looks up the prefixes that bgpdump tells.
+/// Looks up the prefixes that bgpdump tells, for both parties.
 fn look_up(library: &mut Library, pair: &mut Pair, told: &[Told]) -> Result<(), Difference> {
     for told in told {
-        let call = Call::Lookup { address: told.prefix };
-        pair.call(library, &TABLE, pair.lent(call), call)?;
+        for party in [0, 1] {
+            let call = Call::Lookup { party, address: told.prefix };
+            pair.call(library, &TABLE, pair.lent(call), call)?;
+        }
     }
     Ok(())
 }
 
-/// Holds counts and stored routes to what bgpdump tells: the hop of a route is the first that the list has. Gives the
-/// counts.
-fn compare_routes(pair: &Pair, recorded: &Recorded, hops: &[u32]) -> Result<[u32; 3], String> {
+/// Holds counts and stored routes to what bgpdump tells: each is the party's, and its hop is the first that the list
+/// has. Gives the counts.
+fn compare_routes(pair: &Pair, recorded: &Recorded, party: u32, hops: &[u32]) -> Result<[u32; 3], String> {
     let place = |hop: &u32| hops.iter().position(|known| known == hop);
     let route = |told: &Told| {
         let hop = told.next_hops.iter().flatten().find_map(place)?;
-        Some((told.prefix, told.length, hop as u32))
+        Some([party, told.prefix, told.length, hop as u32])
     };
-    let mut told: Vec<(u32, u32, u32)> = recorded.told.iter().filter_map(route).collect();
+    let mut told: Vec<[u32; 4]> = recorded.told.iter().filter_map(route).collect();
     let stored = pair.routes.as_ref().map_or(&[][..], |routes| routes.list());
-    let mut stored: Vec<(u32, u32, u32)> = stored.iter().map(|at| (at.prefix, at.length, at.hop)).collect();
+    let mut stored: Vec<[u32; 4]> =
+        stored.iter().map(|at| [at.party, at.prefix, at.length, at.hop]).collect();
     let counts = [told.len(), 0, recorded.told.len() - told.len()].map(|count| count as u32);
     told.sort();
     stored.sort();

@@ -3,7 +3,8 @@
 
 use crate::calls::{Call, Settings};
 use crate::pair::Pair;
-use crate::rules::{counter_at, first_slot, positions, slot_words};
+use crate::parties::owner;
+use crate::rules::{counter_at, default_word, first_slot, mark, positions};
 
 /// What such an add can meet.
 pub const MEETS: [&str; 8] = [
@@ -14,7 +15,7 @@ pub const MEETS: [&str; 8] = [
     "after a free slot",
     "in two slots",
     "with a counter of 0",
-    "beside its prefix under a mark above 65,536",
+    "beside its prefix under a mark above 131,072",
 ];
 
 /// So many of them, the first, are met without damage.
@@ -23,11 +24,14 @@ pub const MEETS_UNDAMAGED: usize = 5;
 /// What a call on this table is about to meet, if it is an add of a stored prefix.
 pub fn met(pair: &Pair, t: &Settings, call: Call) -> Option<[bool; MEETS.len()]> {
     match call {
-        Call::Add { length: 0, hop, .. } => {
-            let mark = pair.word(slot_words(t) - 1);
-            occupied(mark).then(|| [mark - 1 != hop, true, false, false, false, false, false, false])
+        Call::Add { party: party @ 0..=1, length: 0, hop, .. } => {
+            let held = pair.word(default_word(t, party));
+            let stored = owner(held) == Some(party);
+            stored.then(|| [held != mark(party, hop), true, false, false, false, false, false, false])
         }
-        Call::Add { prefix, length: length @ 1..=32, hop } => met_in_bucket(pair, t, prefix, length, hop),
+        Call::Add { party: party @ 0..=1, prefix, length: length @ 1..=32, hop } => {
+            met_in_bucket(pair, t, party, prefix, length, hop)
+        }
         _ => None,
     }
 }
@@ -35,6 +39,7 @@ pub fn met(pair: &Pair, t: &Settings, call: Call) -> Option<[bool; MEETS.len()]>
 fn met_in_bucket(
     pair: &Pair,
     t: &Settings,
+    party: u32,
     prefix: u32,
     length: u32,
     hop: u32,
@@ -44,21 +49,17 @@ fn met_in_bucket(
     let slots: Vec<(u32, u32)> = slots.collect();
     let counters = positions(t, length, prefix).into_iter().map(|j| pair.counter(counter_at(t, length, j)));
     let counters: Vec<u8> = counters.collect();
-    let free = |(_, mark): &(u32, u32)| !occupied(*mark);
-    let holds = |(held, mark): &(u32, u32)| *held == prefix && occupied(*mark);
+    let free = |(_, mark): &(u32, u32)| owner(*mark).is_none();
+    let holds = |(held, mark): &(u32, u32)| *held == prefix && owner(*mark) == Some(party);
     let own = slots.iter().position(holds)?;
     Some([
-        slots[own].1 - 1 != hop,
+        slots[own].1 != mark(party, hop),
         false,
         !slots.iter().any(free),
         counters.contains(&15),
         slots[..own].iter().any(free),
         slots[own + 1..].iter().any(holds),
         counters.contains(&0),
-        slots.iter().any(|(held, mark)| *held == prefix && *mark > 65_536),
+        slots.iter().any(|(held, mark)| *held == prefix && *mark > 131_072),
     ])
-}
-
-fn occupied(mark: u32) -> bool {
-    (1..=65_536).contains(&mark)
 }

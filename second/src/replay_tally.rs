@@ -83,7 +83,7 @@ impl ReplayTally {
     pub fn count(&mut self, chunk: &Chunk, wrong: bool, answer: u64, after: &Stream, replaced: u32) {
         self.streams.count(chunk, wrong, answer, after);
         let number = answer >> 48;
-        if chunk.words[0] != 0 || number == 1 || number == 2 {
+        if chunk.words[0] != 0 || matches!(number, 1 | 2 | 15) {
             return;
         }
         if number == 19 {

@@ -136,7 +136,7 @@ impl StreamTally {
         }
         let inside = words[1] != 0 || words[2] != 0;
         match number {
-            1 | 2 => return,
+            1 | 2 | 15 => return,
             19 => return add(&mut self.refused, &[too_long, most == u32::MAX, wrong, inside]),
             _ => add(&mut self.words, &words_met(chunk)),
         }

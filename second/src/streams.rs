@@ -84,11 +84,19 @@ impl StreamPair {
     }
 
     /// A chunk of this stream, and its end.
-    pub fn chunk(&self, of: Of, bytes: Vec<u8>, offset: usize, hops: Rc<[u32]>, hops_offset: usize) -> Chunk {
+    pub fn chunk(
+        &self,
+        party: u32,
+        of: Of,
+        bytes: Vec<u8>,
+        offset: usize,
+        hops: Rc<[u32]>,
+        hops_offset: usize,
+    ) -> Chunk {
         let (Stream { counts, tally, words, room }, offsets) = (&self.own, self.offsets);
         let (counts, tally, words) = (*counts, *tally, *words);
         let header = room[..12].try_into().expect("a room holds a header");
-        Chunk { of, bytes, offset, hops, hops_offset, counts, tally, words, header, offsets }
+        Chunk { party, of, bytes, offset, hops, hops_offset, counts, tally, words, header, offsets }
     }
 
     pub fn end(&self) -> End {
@@ -149,10 +157,10 @@ impl Pair {
         put(library, Beside::Hops, hops_offset, &hops);
         let theirs = self.call_library(library, self.area, 0, t, lent, chunk)?;
         let (counters, slots) = (&mut self.counters[MARGIN..], &mut self.slots[MARGIN..]);
-        let (stream, bytes) = (&mut self.stream.own, &chunk.bytes);
+        let (stream, Chunk { party, bytes, hops: known, .. }) = (&mut self.stream.own, chunk);
         let ours = match chunk.of {
-            Of::Dump => import_chunk(t, counters, slots, lent, &chunk.hops, stream, bytes, self.slip),
-            Of::Day => replay_chunk(t, counters, slots, lent, &chunk.hops, stream, bytes, self.slip),
+            Of::Dump => import_chunk(t, counters, slots, *party, lent, known, stream, bytes, self.slip),
+            Of::Day => replay_chunk(t, counters, slots, *party, lent, known, stream, bytes, self.slip),
         };
         same("answer", Answer::to(chunk, theirs), Answer::to(chunk, ours))?;
         compare(library, "byte of the chunk", Beside::Chunk, chunk.offset, bytes)?;
@@ -194,15 +202,16 @@ impl Pair {
     /// Holds a chunk to the list of stored routes, in which each route of its records is a single update.
     fn compare_records(&mut self, chunk: &Chunk, theirs: u64) -> Result<(), Difference> {
         self.stream.replaced = 0;
+        self.answered.clear();
         let (Some(routes), Some(paper)) = (&mut self.routes, &mut self.stream.paper) else {
             self.stream.paper = None;
             return Ok(());
         };
         let refusal = theirs >> 48;
-        if !paper.ended() && matches!(refusal, 1 | 2 | 19) {
+        if !paper.ended() && matches!(refusal, 1 | 2 | 15 | 19) {
             return Ok(());
         }
-        let (listed, more) = paper.take(chunk.of, routes, &chunk.hops, &chunk.bytes);
+        let (listed, more) = paper.take(chunk.of, routes, chunk.party, &chunk.hops, &chunk.bytes);
         on_paper(chunk, theirs, listed)?;
         self.stream.replaced = more.replaced;
         let held = self.stream.held();
@@ -219,6 +228,7 @@ impl Pair {
                 more.tally[which],
             )?;
         }
+        self.answered = more.answered;
         Ok(())
     }
 }

@@ -6,6 +6,7 @@ use crate::message_tally::MessageTally;
 use crate::other_sizes::KINDS;
 use crate::pair::Difference;
 use crate::paper_streams::is_read;
+use crate::party_tally::PartyTally;
 use crate::record_draft::HEADER;
 use crate::replacing::{MEETS, MEETS_UNDAMAGED};
 use crate::replay_tally::ReplayTally;
@@ -13,7 +14,7 @@ use crate::stream_tally::{add, each, never, EndTally, StreamTally};
 use crate::streams::StreamPair;
 use std::fmt;
 
-const CALLS: [&str; 12] = [
+pub const CALLS: [&str; 12] = [
     "clear",
     "add",
     "withdraw",
@@ -29,17 +30,17 @@ const CALLS: [&str; 12] = [
 ];
 
 /// The refusals that each call can give.
-const GIVES: [&[usize]; CALLS.len()] = [
+pub const GIVES: [&[usize]; CALLS.len()] = [
     &[0, 1, 2],
-    &[0, 1, 2, 3, 4, 5, 8, 9, 11],
-    &[0, 1, 2, 3, 4, 7, 10],
-    &[0, 1, 2, 3, 4, 5, 7],
+    &[0, 1, 2, 3, 4, 5, 8, 9, 11, 15],
+    &[0, 1, 2, 3, 4, 7, 10, 15],
+    &[0, 1, 2, 3, 4, 5, 7, 15],
     &[0, 1, 2],
-    &[0, 1, 2],
-    &[0, 1, 2, 18],
-    &[0, 1, 2, 12, 13],
-    &[0, 1, 2, 12, 14, 19],
-    &[0, 1, 2, 12, 14, 19],
+    &[0, 1, 2, 15],
+    &[0, 1, 2, 15, 18],
+    &[0, 1, 2, 12, 13, 15],
+    &[0, 1, 2, 12, 14, 15, 19],
+    &[0, 1, 2, 12, 14, 15, 19],
     &[0, 3, 4, 18],
     &[0, 17],
 ];
@@ -48,7 +49,7 @@ const GIVES: [&[usize]; CALLS.len()] = [
 pub const WITH_SETTINGS: usize = 10;
 
 /// Room for every refusal that a call can give.
-const REFUSALS: usize = 20;
+pub const REFUSALS: usize = 20;
 
 /// Where adds of stored prefixes are counted apart, and how much of what they can meet is met there.
 const REPLACING: [(&str, usize); 2] =
@@ -85,6 +86,7 @@ pub struct Tally {
     pub imports: ImportTally,
     pub replays: ReplayTally,
     pub ends: EndTally,
+    pub parties: PartyTally,
     mixed: [u64; MIXED.len()],
     /// Calls to streams that have ended, which give again the number that ended them, any number.
     again: u64,
@@ -97,6 +99,24 @@ pub struct Tally {
     every_length: u64,
 }
 
+/// Which of the calls one is.
+pub fn row(call: AnyCall) -> usize {
+    match call {
+        AnyCall::One(Call::Clear) => 0,
+        AnyCall::One(Call::Add { .. }) => 1,
+        AnyCall::One(Call::Withdraw { .. }) => 2,
+        AnyCall::One(Call::Change { .. }) => 3,
+        AnyCall::One(Call::Vector { .. }) => 4,
+        AnyCall::One(Call::Lookup { .. }) => 5,
+        AnyCall::List(_) => 6,
+        AnyCall::Message(_) => 7,
+        AnyCall::Chunk(Chunk { of: Of::Dump, .. }) => 8,
+        AnyCall::Chunk(Chunk { of: Of::Day, .. }) => 9,
+        AnyCall::Writing(_) => 10,
+        AnyCall::End(_) => 11,
+    }
+}
+
 impl Tally {
     /// Counts an answer to a call whose sizes are of some of these kinds, unless its refusal is one that the call
     /// never gives.
@@ -106,20 +126,7 @@ impl Tally {
         kinds: [bool; KINDS.len()],
         answer: u64,
     ) -> Result<(), Difference> {
-        let row = match call {
-            AnyCall::One(Call::Clear) => 0,
-            AnyCall::One(Call::Add { .. }) => 1,
-            AnyCall::One(Call::Withdraw { .. }) => 2,
-            AnyCall::One(Call::Change { .. }) => 3,
-            AnyCall::One(Call::Vector { .. }) => 4,
-            AnyCall::One(Call::Lookup { .. }) => 5,
-            AnyCall::List(_) => 6,
-            AnyCall::Message(_) => 7,
-            AnyCall::Chunk(Chunk { of: Of::Dump, .. }) => 8,
-            AnyCall::Chunk(Chunk { of: Of::Day, .. }) => 9,
-            AnyCall::Writing(_) => 10,
-            AnyCall::End(_) => 11,
-        };
+        let row = row(call);
         let ended = match call {
             AnyCall::Chunk(chunk) => chunk.words[0] != 0,
             AnyCall::End(end) => end.words[0] != 0,
@@ -134,6 +141,7 @@ impl Tally {
             return Err(Difference(format!("both give refusal {refusal}, which no {} gives", CALLS[row])));
         }
         self.given[row][refusal] += 1;
+        self.parties.count(call, refusal);
         if row < WITH_SETTINGS {
             for (times, met) in self.other_sizes[row].iter_mut().zip(kinds) {
                 *times += u64::from(met);
@@ -253,7 +261,7 @@ impl Tally {
         }
         let streams =
             || self.imports.missing().or_else(|| self.replays.missing()).or_else(|| self.ends.missing());
-        self.messages.missing().or_else(streams)
+        self.messages.missing().or_else(streams).or_else(|| self.parties.missing())
     }
 }
 
@@ -303,7 +311,8 @@ impl fmt::Display for Tally {
             let times: u64 = self.other_sizes.iter().map(|row| row[number]).sum();
             write!(f, "{} {kind}: {times}", if number == 0 { "" } else { "," })?;
         }
-        write!(f, "\n{}\n{}\n{}\n{}", self.messages, self.imports, self.replays, self.ends)?;
+        write!(f, "\n{}\n{}\n{}\n{}\n", self.messages, self.imports, self.replays, self.ends)?;
+        write!(f, "{}", self.parties)?;
         write!(f, "\n  streams that went on by the other calls: {}", each(MIXED, &self.mixed))
     }
 }

@@ -16,6 +16,10 @@ pub fn told<'a>(t: &Settings, lent: Lent, call: impl Into<AnyCall<'a>>) -> Strin
         AnyCall::End(End { words, .. }) => return format!("end of a stream with the words {words:?}"),
     };
     let unit = if call.units() == 4 { "bytes" } else { "words" };
+    let asked = match call.party() {
+        Some(party) => format!("party {party}: {asked}"),
+        None => asked,
+    };
     format!(
         "{asked}; K {k}, {}, E {e}, S {s}, A {a}, B {b}, C {c}; lent {} counters, {} {unit} of slots",
         told_sizes(&t.d),
@@ -43,11 +47,11 @@ fn told_sizes(sizes: &Sizes) -> String {
 fn told_call(call: Call) -> String {
     match call {
         Call::Clear => "clear".to_string(),
-        Call::Add { prefix, length, hop } => format!("add {}/{length} hop {hop}", dotted(prefix)),
-        Call::Withdraw { prefix, length } => format!("withdraw {}/{length}", dotted(prefix)),
-        Call::Change { prefix, length, hop } => format!("change {}/{length} hop {hop}", dotted(prefix)),
+        Call::Add { prefix, length, hop, .. } => format!("add {}/{length} hop {hop}", dotted(prefix)),
+        Call::Withdraw { prefix, length, .. } => format!("withdraw {}/{length}", dotted(prefix)),
+        Call::Change { prefix, length, hop, .. } => format!("change {}/{length} hop {hop}", dotted(prefix)),
         Call::Vector { address } => format!("match vector of {}", dotted(address)),
-        Call::Lookup { address } => format!("lookup of {}", dotted(address)),
+        Call::Lookup { address, .. } => format!("lookup of {}", dotted(address)),
     }
 }
 
@@ -70,12 +74,12 @@ fn told_list(list: &List) -> String {
 }
 
 fn told_message(message: &Message) -> String {
-    let Message { bytes, offset, hops, hops_offset } = message;
+    let Message { bytes, offset, hops, hops_offset, .. } = message;
     format!("message of {}, {}", told_bytes(bytes, *offset), told_hops(hops, *hops_offset))
 }
 
 fn told_chunk(chunk: &Chunk) -> String {
-    let Chunk { of, bytes, offset, hops, hops_offset, counts, tally, words, header, offsets } = chunk;
+    let Chunk { of, bytes, offset, hops, hops_offset, counts, tally, words, header, offsets, .. } = chunk;
     let (call, counted, counted_at) = match of {
         Of::Dump => ("import", format!("counts {counts:?}"), offsets.counts),
         Of::Day => ("replay", format!("tally {tally:?}"), offsets.tally),

@@ -8,7 +8,7 @@ use crate::places::{bytes_of, places};
 use crate::routes::Routes;
 use crate::rules::{bucket, counter_at, first_slot, positions, walk_agrees, T};
 use crate::told::{told, Answer};
-use crate::{worked_days, worked_imports, worked_messages, worked_sizes};
+use crate::{worked_days, worked_imports, worked_messages, worked_parties, worked_sizes};
 
 pub fn address(a: u8, b: u8, c: u8, d: u8) -> u32 {
     u32::from_be_bytes([a, b, c, d])
@@ -23,7 +23,7 @@ pub fn found(hop: u64, length: u64, probes: u64) -> u64 {
 }
 
 /// Settings with every multiplier zero, so that all steps of a route hit one counter.
-fn zero(k: u32, s: u32) -> Settings {
+pub fn zero(k: u32, s: u32) -> Settings {
     Settings { k, d: Sizes::equal(4), e: 0, s, a: 0, b: 0, c: 0 }
 }
 
@@ -35,13 +35,15 @@ pub fn one_off(Lent { counters, slots }: Lent) -> [Lent; 4] {
 
 /// A list whose results hold something before the call.
 pub fn list_of(addresses: Vec<u8>, results: usize) -> List {
-    List { addresses, addresses_offset: 0, results: vec![7; results], results_offset: 0 }
+    List { party: 0, addresses, addresses_offset: 0, results: vec![7; results], results_offset: 0 }
 }
 
 /// One case: a table that begins cleared.
 pub struct Case<'a> {
     name: &'static str,
     pub t: Settings,
+    /// The party that is named where a call of the case does not name one itself.
+    pub party: u32,
     pub library: &'a mut Library,
     pub pair: Pair,
 }
@@ -49,7 +51,7 @@ pub struct Case<'a> {
 impl<'a> Case<'a> {
     pub fn new(library: &'a mut Library, name: &'static str, t: Settings) -> Result<Case<'a>, String> {
         let pair = Pair::new(library, Area::Old, t, None, || 7, || 7);
-        let mut case = Case { name, t, library, pair };
+        let mut case = Case { name, t, party: 0, library, pair };
         case.gives(Call::Clear, 0)?;
         case.pair.routes = Some(Routes::new(t, None));
         Ok(case)
@@ -87,7 +89,7 @@ impl<'a> Case<'a> {
     }
 
     pub fn add(&mut self, prefix: u32, length: u32, hop: u32, refusal: u64) -> Result<(), String> {
-        self.gives(Call::Add { prefix, length, hop }, refused(refusal))
+        self.gives(Call::Add { party: self.party, prefix, length, hop }, refused(refusal))
     }
 
     /// An add is accepted, and leaves this mark in this word and all else as it was.
@@ -99,7 +101,7 @@ impl<'a> Case<'a> {
     }
 
     pub fn lookup(&mut self, address: u32, answer: u64) -> Result<(), String> {
-        self.gives(Call::Lookup { address }, answer)
+        self.gives(Call::Lookup { party: self.party, address }, answer)
     }
 
     pub fn vector(&mut self, address: u32, vector: u64) -> Result<(), String> {
@@ -109,7 +111,7 @@ impl<'a> Case<'a> {
     /// A list of addresses gives these answers.
     pub fn list(&mut self, addresses: &[u32], answers: &[[u32; 4]]) -> Result<(), String> {
         let results = bytes_of(&answers.concat());
-        let list = list_of(bytes_of(addresses), results.len());
+        let list = List { party: self.party, ..list_of(bytes_of(addresses), results.len()) };
         self.list_gives(self.pair.lent(&list), &list, 0, &results)
     }
 
@@ -190,7 +192,7 @@ pub fn run(library: &mut Library) -> Result<(), String> {
     case.add(ten, 8, 7, 0)?;
     case.add(eight, 8, 7, 0)?;
     case.add(nine, 8, 7, 8)?;
-    case.gives(Call::Withdraw { prefix: eight, length: 8 }, 0)?;
+    case.gives(Call::Withdraw { party: 0, prefix: eight, length: 8 }, 0)?;
     case.lookup(ten, found(7, 8, 1))?;
     case.add(nine, 8, 7, 0)?;
     case.holds(case.pair.word(2 * (first_slot(&T, 8, nine) + 1)) == nine, "9/8 lies in slot 1")?;
@@ -218,7 +220,7 @@ pub fn run(library: &mut Library) -> Result<(), String> {
     case.add(1, 0, 7, 4)?;
     case.add(ten, 8, 65_536, 5)?;
     case.add(ten, 8, 65_535, 0)?;
-    for call in [Call::Clear, Call::Vector { address: ten }, Call::Lookup { address: ten }] {
+    for call in [Call::Clear, Call::Vector { address: ten }, Call::Lookup { party: 0, address: ten }] {
         for lent in one_off(case.pair.lent(call)) {
             case.gives_lent(lent, call, refused(2))?;
         }
@@ -234,7 +236,8 @@ pub fn run(library: &mut Library) -> Result<(), String> {
     worked_sizes::run(library)?;
     worked_messages::run(library)?;
     worked_imports::run(library)?;
-    worked_days::run(library)
+    worked_days::run(library)?;
+    worked_parties::run(library)
 }
 
 /// Stored prefixes that are added again.
@@ -251,9 +254,9 @@ fn stored_again(library: &mut Library) -> Result<(), String> {
     case.replaces(ten, 8, 65_535, 57, 65_536)?;
     case.replaces(ten, 8, 0, 57, 1)?;
     case.lookup(ten, found(0, 8, 1))?;
-    case.gives(Call::Withdraw { prefix: ten, length: 8 }, 0)?;
+    case.gives(Call::Withdraw { party: 0, prefix: ten, length: 8 }, 0)?;
     case.lookup(ten, 0)?;
-    case.gives(Call::Withdraw { prefix: ten, length: 8 }, refused(7))?;
+    case.gives(Call::Withdraw { party: 0, prefix: ten, length: 8 }, refused(7))?;
 
     let mut case = Case::new(library, "W7 in a full bucket", T)?;
     case.add(ten, 8, 7, 0)?;
@@ -262,7 +265,7 @@ fn stored_again(library: &mut Library) -> Result<(), String> {
     case.lookup(address(8, 1, 2, 3), found(6, 8, 1))?;
     case.replaces(ten, 8, 1, 57, 2)?;
     case.add(nine, 8, 6, 8)?;
-    case.gives(Call::Withdraw { prefix: ten, length: 8 }, 0)?;
+    case.gives(Call::Withdraw { party: 0, prefix: ten, length: 8 }, 0)?;
     case.replaces(eight, 8, 4, 59, 5)?;
     case.add(nine, 8, 6, 0)?;
     case.holds(case.pair.word(56) == nine, "9/8 lies in slot 0, which was free")?;
@@ -297,11 +300,11 @@ fn stored_again(library: &mut Library) -> Result<(), String> {
     case.pair.damage_counter(case.library, 113, 0);
     case.replaces(ten, 8, 8, 57, 9)?;
     case.lookup(ten, 0)?;
-    case.pair.damage_word(case.library, 57, 65_537);
+    case.pair.damage_word(case.library, 57, 131_073);
     case.replaces(ten, 8, 3, 59, 4)?;
-    case.pair.damage_word(case.library, 59, 65_537);
+    case.pair.damage_word(case.library, 59, 131_073);
     case.add(ten, 8, 3, 0)?;
-    case.holds(case.pair.word(57) == 4 && case.pair.word(59) == 65_537, "10/8 is added to slot 0")?;
+    case.holds(case.pair.word(57) == 4 && case.pair.word(59) == 131_073, "10/8 is added to slot 0")?;
     case.holds(case.pair.counter(112) == 1 && case.pair.counter(113) == 1, "its counters are raised")
 }
 

@@ -9,7 +9,7 @@ use crate::worked_messages::{update, MESSAGE, NEXT_HOP};
 use std::rc::Rc;
 
 /// A message of AS 65010, at 10.255.0.5, to AS 65030, at 10.255.0.3: what stands before it.
-const BEFORE: [u8; 28] = [
+pub const BEFORE: [u8; 28] = [
     0x6a, 0x00, 0x00, 0x00, // a time
     0x00, 0x10, 0x00, 0x01, // type 16, subtype 1
     0x00, 0x00, 0x00, 0x3d, // 61 bytes: 16 and a message of 45
@@ -42,7 +42,7 @@ const FAMILY: [usize; 2] = [6, 10];
 const MESSAGE_AT: [usize; 2] = [16, 20];
 
 /// NEXT_HOP of the worked message stands at place 1.
-const HOPS: [u32; 2] = [7, NEXT_HOP];
+pub const HOPS: [u32; 2] = [7, NEXT_HOP];
 
 /// What stands before a message in a record of subtype 1, and of subtype 4.
 fn befores() -> [&'static [u8]; 2] {
@@ -55,7 +55,7 @@ fn of_body(before: &[u8], body: &[u8]) -> Vec<u8> {
 }
 
 /// A record with this message.
-fn with_message(before: &[u8], message: &[u8]) -> Vec<u8> {
+pub fn with_message(before: &[u8], message: &[u8]) -> Vec<u8> {
     of_body(before, &[&before[BODY..], message].concat())
 }
 
@@ -75,7 +75,7 @@ fn eights(withdrawn: &[u8], announced: &[u8]) -> Vec<u8> {
 }
 
 /// A tally: records seen, UPDATEs applied, routes accepted, and how many were refused under some numbers.
-fn tally(seen: u32, applied: u32, accepted: u32, refused: &[(usize, u32)]) -> [u32; FIGURES] {
+pub fn tally(seen: u32, applied: u32, accepted: u32, refused: &[(usize, u32)]) -> [u32; FIGURES] {
     let mut tally = [0; FIGURES];
     tally[..3].copy_from_slice(&[seen, applied, accepted]);
     for (number, times) in refused {
@@ -85,7 +85,7 @@ fn tally(seen: u32, applied: u32, accepted: u32, refused: &[(usize, u32)]) -> [u
 }
 
 /// No record, and the worked message applied to a table without 10.1.0.0/16, as often as that is seen.
-const NONE: [u32; FIGURES] = [0; FIGURES];
+pub const NONE: [u32; FIGURES] = [0; FIGURES];
 fn applied(times: u32) -> [u32; FIGURES] {
     tally(times, times, 2 * times, &[(7, times)])
 }
@@ -97,7 +97,7 @@ fn seen(times: u32) -> [u32; FIGURES] {
 
 impl Case<'_> {
     /// Begins a stream, in room whose bytes are 7.
-    fn begin_day(&mut self, tally: [u32; FIGURES], words: [u32; 3]) {
+    pub fn begin_day(&mut self, tally: [u32; FIGURES], words: [u32; 3]) {
         self.begin_in(tally, words, vec![7; ROOM]);
     }
 
@@ -106,7 +106,7 @@ impl Case<'_> {
         self.pair.stream.set_tally(self.library, tally);
     }
 
-    fn replay_with(
+    pub fn replay_with(
         &mut self,
         t: &Settings,
         lent: Option<Lent>,
@@ -114,7 +114,7 @@ impl Case<'_> {
         hops: &[u32],
         number: u64,
     ) -> Result<(), String> {
-        let chunk = self.pair.stream.chunk(Of::Day, chunk.to_vec(), 0, Rc::from(hops), 0);
+        let chunk = self.pair.stream.chunk(self.party, Of::Day, chunk.to_vec(), 0, Rc::from(hops), 0);
         let lent = lent.unwrap_or(self.pair.lent(&chunk));
         let given = self.pair.call_chunk(self.library, t, lent, &chunk);
         let given = given.map_err(|difference| self.wrong(lent, &chunk, difference.0))?;
@@ -122,7 +122,7 @@ impl Case<'_> {
     }
 
     /// A chunk is given a number, and leaves this tally and these words.
-    fn replay(
+    pub fn replay(
         &mut self,
         chunk: &[u8],
         number: u64,
@@ -134,7 +134,7 @@ impl Case<'_> {
         self.tells(tally, words)
     }
 
-    fn tells(&self, tally: [u32; FIGURES], words: [u32; 3]) -> Result<(), String> {
+    pub fn tells(&self, tally: [u32; FIGURES], words: [u32; 3]) -> Result<(), String> {
         let Stream { tally: told, words: kept, .. } = self.pair.stream.held();
         let what = format!("tally {tally:?} and words {words:?}, where there are {told:?} and {kept:?}");
         self.holds((*told, *kept) == (tally, words), &what)

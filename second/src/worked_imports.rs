@@ -32,7 +32,7 @@ const COUNT: usize = 18;
 const ENTRIES: usize = 20;
 const FIRST_HOP: usize = 28;
 
-const HOPS: [u32; 2] = [7, 0x0a09_0901];
+pub const HOPS: [u32; 2] = [7, 0x0a09_0901];
 
 /// The record with these bytes from a place on in place of as many.
 fn with(at: usize, bytes: &[u8]) -> Vec<u8> {
@@ -48,12 +48,12 @@ fn of_body(body: &[u8]) -> Vec<u8> {
 
 impl Case<'_> {
     /// Begins a stream, in room whose bytes are 7.
-    fn begin(&mut self, counts: [u32; 3], words: [u32; 3]) {
+    pub fn begin(&mut self, counts: [u32; 3], words: [u32; 3]) {
         self.pair.stream.begin(self.library, self.pair.area, 0, words, Some(vec![7; ROOM]));
         self.pair.stream.set_counts(self.library, counts);
     }
 
-    fn import_with(
+    pub fn import_with(
         &mut self,
         t: &Settings,
         lent: Option<Lent>,
@@ -61,7 +61,7 @@ impl Case<'_> {
         hops: &[u32],
         number: u64,
     ) -> Result<(), String> {
-        let chunk = self.pair.stream.chunk(Of::Dump, chunk.to_vec(), 0, Rc::from(hops), 0);
+        let chunk = self.pair.stream.chunk(self.party, Of::Dump, chunk.to_vec(), 0, Rc::from(hops), 0);
         let lent = lent.unwrap_or(self.pair.lent(&chunk));
         let given = self.pair.call_chunk(self.library, t, lent, &chunk);
         let given = given.map_err(|difference| self.wrong(lent, &chunk, difference.0))?;
@@ -80,7 +80,7 @@ impl Case<'_> {
         self.left(counts, words)
     }
 
-    fn left(&self, counts: [u32; 3], words: [u32; 3]) -> Result<(), String> {
+    pub fn left(&self, counts: [u32; 3], words: [u32; 3]) -> Result<(), String> {
         let Stream { counts: left, words: kept, .. } = self.pair.stream.held();
         let what = format!("counts {counts:?} and words {words:?}, where there are {left:?} and {kept:?}");
         self.holds((*left, *kept) == (counts, words), &what)

@@ -26,7 +26,7 @@ const ANNOUNCED: usize = 40;
 pub const NEXT_HOP: u32 = 0x0a09_0901;
 
 pub fn with_hops(bytes: &[u8], hops: &[u32]) -> Message {
-    Message { bytes: bytes.to_vec(), offset: 0, hops: hops.to_vec(), hops_offset: 0 }
+    Message { party: 0, bytes: bytes.to_vec(), offset: 0, hops: hops.to_vec(), hops_offset: 0 }
 }
 
 /// The number of so many routes accepted and refused.
@@ -56,7 +56,7 @@ fn cut(size: usize, more: &[u8]) -> Vec<u8> {
 }
 
 impl Case<'_> {
-    fn message_gives(&mut self, message: &Message, answer: u64) -> Result<(), String> {
+    pub fn message_gives(&mut self, message: &Message, answer: u64) -> Result<(), String> {
         let (t, lent) = (self.t, self.pair.lent(message));
         self.message_gives_with(&t, lent, message, answer)
     }

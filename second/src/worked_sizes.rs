@@ -44,7 +44,7 @@ impl Case<'_> {
         hop: u32,
         counted: &[(usize, u8)],
     ) -> Result<(), String> {
-        self.counts(Call::Add { prefix, length, hop }, counted)
+        self.counts(Call::Add { party: 0, prefix, length, hop }, counted)
     }
 
     /// Every call with this list of sizes and so many counters is refused, and leaves all as it was.
@@ -55,11 +55,11 @@ impl Case<'_> {
         let number = refused(refusal);
         for call in [
             Call::Clear,
-            Call::Add { prefix: TEN, length: 9, hop: 1 },
-            Call::Withdraw { prefix: TEN, length: 8 },
-            Call::Change { prefix: TEN, length: 8, hop: 1 },
+            Call::Add { party: 0, prefix: TEN, length: 9, hop: 1 },
+            Call::Withdraw { party: 0, prefix: TEN, length: 8 },
+            Call::Change { party: 0, prefix: TEN, length: 8, hop: 1 },
             Call::Vector { address: TEN },
-            Call::Lookup { address: TEN },
+            Call::Lookup { party: 0, address: TEN },
         ] {
             let lent = Lent { counters, ..self.pair.lent(call) };
             self.gives_lent(lent, call, number)?;
@@ -128,8 +128,8 @@ fn answers(library: &mut Library) -> Result<(), String> {
         [(2, 16), (7, 96), (9, 176), (15, 272), (17, 2336), (23, 2432), (25, 2480), (31, 2576)]
     {
         case.add_counts(0, length, 1, &[(first, 2)])?;
-        case.counts(Call::Change { prefix: 0, length, hop: 2 }, &[])?;
-        case.counts(Call::Withdraw { prefix: 0, length }, &[(first, 0)])?;
+        case.counts(Call::Change { party: 0, prefix: 0, length, hop: 2 }, &[])?;
+        case.counts(Call::Withdraw { party: 0, prefix: 0, length }, &[(first, 0)])?;
     }
 
     case.vector(address(10, 1, 2, 3), 32_897)?;
@@ -161,8 +161,8 @@ fn answers(library: &mut Library) -> Result<(), String> {
     case.holds(case.pair.counter(2472) == 1 && case.pair.counter(2456) == 1, "192.0.2.0/24 is counted once")?;
     case.lookup(address(10, 1, 2, 3), found(7, 8, 1))?;
     case.lookup(address(192, 0, 2, 9), found(0, 24, 1))?;
-    case.counts(Call::Withdraw { prefix: LAST, length: 32 }, &[(2719, 0)])?;
-    case.counts(Call::Withdraw { prefix: TEN, length: 8 }, &[(114, 0), (119, 0)])?;
+    case.counts(Call::Withdraw { party: 0, prefix: LAST, length: 32 }, &[(2719, 0)])?;
+    case.counts(Call::Withdraw { party: 0, prefix: TEN, length: 8 }, &[(114, 0), (119, 0)])?;
     case.lookup(address(10, 1, 2, 3), found(6, 1, 1))
 }
 
@@ -202,7 +202,7 @@ fn crowded(library: &mut Library) -> Result<(), String> {
             case.add_counts(prefix(n), length, n, &[(first, 5 * n as u8)])?;
         }
         case.add(prefix(0), length, 1, 9)?;
-        case.counts(Call::Withdraw { prefix: prefix(2), length }, &[(first, 10)])?;
+        case.counts(Call::Withdraw { party: 0, prefix: prefix(2), length }, &[(first, 10)])?;
         case.add_counts(prefix(0), length, 1, &[(first, 15)])?;
     }
     Ok(())
@@ -254,8 +254,8 @@ fn same_sum(library: &mut Library) -> Result<(), String> {
     case.t.d = fours_but(&[(8, 11), (16, 6), (24, 5), (32, 7)]);
     case.vector(TEN, 0)?;
     case.lookup(TEN, 0)?;
-    case.gives(Call::Withdraw { prefix: TEN, length: 8 }, refused(10))?;
-    case.counts(Call::Add { prefix: TEN, length: 8, hop: 8 }, &[])?;
+    case.gives(Call::Withdraw { party: 0, prefix: TEN, length: 8 }, refused(10))?;
+    case.counts(Call::Add { party: 0, prefix: TEN, length: 8, hop: 8 }, &[])?;
     case.add_counts(address(8, 0, 0, 0), 8, 1, &[(176, 1), (304, 1)])?;
     case.lookup(address(8, 0, 0, 0), found(1, 8, 1))?;
     case.gives(Call::Clear, 0)?;

@@ -10,7 +10,7 @@ use lib.ListN.{length}
 use lib.Pow.{pow-mono}
 use borrow.Author.Tests.{eq-eqb, ne-eqb}
 use Rattle.rules.specs.declared.Settings.{Settings}
-use Rattle.rules.specs.Table.{bucket, slot-number, mark-word, default-word, mark-at, prefix-at, occupied, free, holds}
+use Rattle.rules.specs.Table.{slots-size, bucket, slot-number, mark-word, default-word, mark-at, prefix-at, own, occupied, free, holds}
 use Rattle.rules.specs.Ready.{Ready, Slots}
 use Rattle.rules.proofs.Placing.{ranges, bucket-lt, words-fit, default-fits}
 use Rattle.buckets.specs.Turns.{holding}
@@ -37,7 +37,7 @@ counted t p L s first from = omega arith
 
 -- its words are lent
 pub slot-lent : (t : Settings) (slots : List ℕ) → Slots t slots → (p L s : ℕ) → Ready t L → s < t .s → mark-word (slot-number t p L s) < length slots
-slot-lent t slots sized p L s ready h = rw (sized .size) (omega (arith, words-fit t p L s ready h .mark, default-fits t))
+slot-lent t slots sized p L s ready h = rw (sized .size) (omega (arith, words-fit t p L s ready h .mark, default-fits t 0 (omega arith)))
 
 module _ (t : Settings) (slots : List ℕ) (p L s first : ℕ) (from : first ≡ slot-number t p L 0) where
   pub is-lent : Ready t L → Slots t slots → s < t .s → mark-word (first + s) < length slots
@@ -48,24 +48,27 @@ module _ (t : Settings) (slots : List ℕ) (p L s first : ℕ) (from : first ≡
   unfolding free
   free-by mark r m o = rw (o, m, counted t p L s first from)
 
-  -- and so is that of mark and prefix
-  pub holds-by : (r : Bool) → r ≡ holding slots (first + s) p → holds t slots p L s ≡ r
-  unfolding holds
-  holds-by r h = rw (h, counted t p L s first from)
+-- and so is that of mark and prefix
+pub holds-by : (t : Settings) (slots : List ℕ) (party p L s first : ℕ) → first ≡ slot-number t p L 0
+    → (r : Bool) → r ≡ holding slots party (first + s) p → holds t slots party p L s ≡ r
+unfolding holds
+holds-by t slots party p L s first from r h = rw (h, counted t p L s first from)
 
--- the last word is the default's
-pub some-word : (t : Settings) (slots : List ℕ) → Slots t slots → 1 ≤ length slots
-some-word t slots lent = omega (arith, default-fits t, lent .size)
+-- the last two words are the parties' defaults'
+module _ (t : Settings) (slots : List ℕ) (lent : Slots t slots) where
+  pub two-words : 2 ≤ length slots
+  unfolding slots-size
+  two-words = omega (arith, lent .size)
 
-pub last-word : (t : Settings) (slots : List ℕ) → Slots t slots → length slots - 1 ≡ default-word t
-unfolding default-word
-last-word t slots lent = ap (λ (n : ℕ). n - 1) (lent .size)
+  pub last-words : (party : ℕ) → length slots - 2 + party ≡ default-word t party
+  unfolding default-word slots-size
+  last-words party = omega (arith, lent .size)
 
 -- A slot's prefix, once read, decides alone where it is another, and leaves it to the mark where it is p.
-module _ (slots : List ℕ) (n p q : ℕ) (read : q ≡ prefix-at slots n) where
-  pub same-prefix : (mark : ℕ) {by-mark : Bool} → q ≡ p → mark ≡ mark-at slots n → by-mark ≡ occupied mark → by-mark ≡ holding slots n p
+module _ (slots : List ℕ) (party n p q : ℕ) (read : q ≡ prefix-at slots n) where
+  pub same-prefix : (mark : ℕ) {by-mark : Bool} → q ≡ p → mark ≡ mark-at slots n → by-mark ≡ own party mark → by-mark ≡ holding slots party n p
   same-prefix mark same its-mark by =
-      by ∙ ap occupied its-mark ∙ sym (and-comm (occupied (mark-at slots n)) (eqb (prefix-at slots n) p) ∙ rw (← read, eq-eqb q p same))
+      by ∙ ap (own party) its-mark ∙ sym (and-comm (own party (mark-at slots n)) (eqb (prefix-at slots n) p) ∙ rw (← read, eq-eqb q p same))
 
-  pub other-prefix : (q ≡ p → ⊥) → eqb q p ≡ holding slots n p
-  other-prefix other = sym (and-comm (occupied (mark-at slots n)) (eqb (prefix-at slots n) p) ∙ rw (← read, ne-eqb q p other))
+  pub other-prefix : (q ≡ p → ⊥) → eqb q p ≡ holding slots party n p
+  other-prefix other = sym (and-comm (own party (mark-at slots n)) (eqb (prefix-at slots n) p) ∙ rw (← read, ne-eqb q p other))

@@ -5,7 +5,7 @@ use mathlib.Core.Bool.{Bool, _&&_}
 use mathlib.Core.List.{List}
 use lib.Dec.{eqb}
 use Rattle.rules.specs.declared.Settings.{Settings}
-use Rattle.rules.specs.Table.{prefix, slot-number, mark-at, prefix-at, occupied}
+use Rattle.rules.specs.Table.{prefix, slot-number, mark-at, prefix-at, own}
 use Rattle.buckets.specs.declared.Turn.{Turn}
 
 -- L is the longest length whose bit is set in v
@@ -22,6 +22,6 @@ pub record Turned (t : Settings) (address lengths : ℕ) (turn : Turn) : Type 0 
   pub from : turn .first ≡ slot-number t (turn .p) (turn .length) 0
   pub rest : turn .left ≡ lengths - 2 ^ (turn .length - 1)
 
--- slot n, by its number, is occupied and holds p
-abbrev pub holding : (slots : List ℕ) (n p : ℕ) → Bool
-holding slots n p = occupied (mark-at slots n) && eqb (prefix-at slots n) p
+-- slot n, by its number, is the party's and holds p
+abbrev pub holding : (slots : List ℕ) (party n p : ℕ) → Bool
+holding slots party n p = own party (mark-at slots n) && eqb (prefix-at slots n) p

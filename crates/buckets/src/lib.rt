@@ -1,9 +1,9 @@
 // Buckets of slots, over lent words: a slot's prefix, then its mark.
 ghost use mathlib.Core.Path.{_≡_};
 ghost use mathlib.Core.Bool.{true};
-ghost use Prim.Native.Nat.{_<_};
+ghost use Prim.Native.Nat.{_≤_, _<_};
 ghost use lib.ListN.{length, set};
-ghost use Rattle.rules.specs.Table.{in-range, slot-number, mark-word, default-word, mark-at, prefix-at, default-mark, with-slot, set-bits, search, occupied};
+ghost use Rattle.rules.specs.Table.{in-range, slot-number, mark-word, default-word, mark-at, prefix-at, default-mark, with-slot, set-bits, search, first-mark, own, occupied, mark-of};
 ghost use Rattle.rules.specs.Ready.{Ready, Slots};
 ghost use Rattle.rules.specs.Meaning.{bucket-place};
 ghost use Rattle.buckets.specs.Turns.{Turned, holding};
@@ -22,11 +22,37 @@ pub struct Turn {
     pub left: u32,
 }
 
-// Whether a mark means that its slot, or the default, is occupied.
-pub fn is_occupied(mark: u32) -> bool
+// The first of a party's marks.
+pub fn first_mark(party: u32) -> u32
+    requires { ⌜ party ≤ 1 ⌝ }
+    ensures { λ r. ⌜ r ≡ first-mark party ⌝ }
+{
+    65536 * party + 1
+}
+
+// The party's mark of a hop.
+pub fn mark_of(party: u32, hop: u32) -> u32
+    requires { ⌜ party ≤ 1 ⌝ }
+    requires { ⌜ hop ≤ 65535 ⌝ }
+    ensures { λ r. ⌜ r ≡ mark-of party hop ⌝ }
+{
+    first_mark(party) + hop
+}
+
+// Whether a mark is the party's.
+pub fn is_own(party: u32, mark: u32) -> bool
+    requires { ⌜ party ≤ 1 ⌝ }
+    ensures { λ r. ⌜ r ≡ own party mark ⌝ }
+{
+    let first = first_mark(party);
+    first <= mark && mark <= first + 65535
+}
+
+// Whether a mark, of either party, means that its slot is occupied.
+fn is_occupied(mark: u32) -> bool
     ensures { λ r. ⌜ r ≡ occupied mark ⌝ }
 {
-    1 <= mark && mark <= 65536
+    1 <= mark && mark <= 131072
 }
 
 // The number of the first slot of a prefix's bucket at a length.
@@ -54,21 +80,23 @@ pub fn mark_at(slots: &[u32], slot: usize) -> u32
     slots[2 * slot + 1]
 }
 
-// The mark of the default route: the last word of all.
-pub fn default_mark(settings: Settings, slots: &[u32]) -> u32
+// The mark in the word of a party's default route: the last word but one, or the last.
+pub fn default_mark(settings: Settings, slots: &[u32], party: u32) -> u32
     requires { ⌜ Slots settings (now slots) ⌝ }
-    ensures { λ r. ⌜ r ≡ default-mark settings (now (slots .entry)) ⌝ }
+    requires { ⌜ party ≤ 1 ⌝ }
+    ensures { λ r. ⌜ r ≡ default-mark settings (now (slots .entry)) party ⌝ }
 {
-    slots[slots.len() - 1]
+    slots[slots.len() - 2 + party as usize]
 }
 
-// Gives the default route a mark.
-pub fn put_default(settings: Settings, slots: &mut [u32], mark: u32)
+// Gives a party's default route a mark.
+pub fn put_default(settings: Settings, slots: &mut [u32], party: u32, mark: u32)
     requires { ⌜ Slots settings (now slots) ⌝ }
-    ensures { λ _. ⌜ now (slots .exit) ≡ set (now (slots .entry)) (default-word settings) mark ⌝ }
+    requires { ⌜ party ≤ 1 ⌝ }
+    ensures { λ _. ⌜ now (slots .exit) ≡ set (now (slots .entry)) (default-word settings party) mark ⌝ }
 {
-    let last = slots.len() - 1;
-    slots[last] = mark;
+    let word = slots.len() - 2 + party as usize;
+    slots[word] = mark;
 }
 
 // Gives a slot, by its number, a prefix and a mark.
@@ -80,12 +108,13 @@ pub fn put_slot(slots: &mut [u32], slot: usize, p: u32, mark: u32)
     slots[2 * slot + 1] = mark;
 }
 
-// Whether a slot, by its number, is occupied and holds a prefix.
-fn holds_at(slots: &[u32], slot: usize, p: u32) -> bool
+// Whether a slot, by its number, is the party's and holds a prefix.
+fn holds_at(slots: &[u32], party: u32, slot: usize, p: u32) -> bool
     requires { ⌜ mark-word slot < length (now slots) ⌝ }
-    ensures { λ r. ⌜ r ≡ holding (now (slots .entry)) slot p ⌝ }
+    requires { ⌜ party ≤ 1 ⌝ }
+    ensures { λ r. ⌜ r ≡ holding (now (slots .entry)) party slot p ⌝ }
 {
-    prefix_at(slots, slot) == p && is_occupied(mark_at(slots, slot))
+    prefix_at(slots, slot) == p && is_own(party, mark_at(slots, slot))
 }
 
 // A turn of a search: the longest length that is left, the address's prefix of it, the first slot of
@@ -108,11 +137,18 @@ pub fn turn_of(settings: Settings, address: u32, lengths: u32) -> Turn
 }
 
 // Searches the buckets of an address at the lengths whose bits are set in `lengths`, from the
-// longest down, each from its lowest slot up, for a slot that is occupied and holds the prefix.
-pub fn search_buckets(settings: Settings, slots: &[u32], address: u32, lengths: u32) -> Place
+// longest down, each from its lowest slot up, for a slot that is the party's and holds the prefix.
+pub fn search_buckets(
+    settings: Settings,
+    slots: &[u32],
+    party: u32,
+    address: u32,
+    lengths: u32,
+) -> Place
     requires { ⌜ in-range settings ≡ true ⌝ }
     requires { ⌜ Slots settings (now slots) ⌝ }
-    ensures { λ r. ⌜ r ≡ search settings (now (slots .entry)) address 0 (set-bits lengths) ⌝ }
+    requires { ⌜ party ≤ 1 ⌝ }
+    ensures { λ r. ⌜ r ≡ search settings (now (slots .entry)) party address 0 (set-bits lengths) ⌝ }
 {
     let mut found = Place::Absent(Vacancy::Full);
     let mut left = lengths;
@@ -123,7 +159,7 @@ pub fn search_buckets(settings: Settings, slots: &[u32], address: u32, lengths: 
         let mut s: u32 = 0;
         while s < settings.s {
             let slot = turn.first + s as usize;
-            if holds_at(slots, slot, turn.p) {
+            if holds_at(slots, party, slot, turn.p) {
                 found = Place::At {
                     slot,
                     length: turn.length,
@@ -148,19 +184,20 @@ fn first_of(vacancy: Vacancy, slot: usize) -> Vacancy
     }
 }
 
-// Searches a prefix's own bucket at a length, from the lowest slot up to the one that is occupied and
+// Searches a prefix's own bucket at a length, from the lowest slot up to the one that is the party's and
 // holds the prefix, and keeps the first free slot on the way.
-pub fn search_bucket(settings: Settings, slots: &[u32], p: u32, length: u32) -> Place
+pub fn search_bucket(settings: Settings, slots: &[u32], party: u32, p: u32, length: u32) -> Place
     requires { ⌜ Ready settings length ⌝ }
     requires { ⌜ Slots settings (now slots) ⌝ }
-    ensures { λ r. ⌜ r ≡ bucket-place settings (now (slots .entry)) p length ⌝ }
+    requires { ⌜ party ≤ 1 ⌝ }
+    ensures { λ r. ⌜ r ≡ bucket-place settings (now (slots .entry)) party p length ⌝ }
 {
     let first = first_slot(settings, p, length);
     let mut vacancy = Vacancy::Full;
     let mut s: u32 = 0;
     while s < settings.s {
         let slot = first + s as usize;
-        if holds_at(slots, slot, p) {
+        if holds_at(slots, party, slot, p) {
             return Place::At {
                 slot,
                 length,

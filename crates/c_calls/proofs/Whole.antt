@@ -8,7 +8,7 @@ use lib.Dec.{ltb, eqb}
 use lib.ListN.{length, replicate}
 use Rattle.rules.specs.declared.Settings.{Settings}
 use Rattle.rules.specs.Tools.{within, all}
-use Rattle.rules.specs.Table.{list-in-range, in-range, Memory, refuse, memory-refusal, route-refusal, add-refusal, withdraw-refusal, change-refusal, unless-refused, clear, add, withdraw, change, match-vector, vector-number, c-match-vector, refused, lookup, answer-number, c-lookup, answered, listed, list-refusal, c-list-refusal, c-lookup-list}
+use Rattle.rules.specs.Table.{list-in-range, in-range, Memory, refuse, memory-refusal, party-refusal, route-refusal, add-refusal, withdraw-refusal, change-refusal, unless-refused, clear, add, withdraw, change, match-vector, vector-number, c-match-vector, refused, lookup, answer-number, c-lookup, answered, listed, list-refusal, c-list-refusal, c-lookup-list}
 use Rattle.message_format.specs.Reading.{message-refusal, refused-message, apply-message}
 use Rattle.stream_format.specs.Kept.{is-ended, ended-number}
 use Rattle.stream_format.specs.Chunks.{Reading, chunk-refusal, as-it-was, take-chunk}
@@ -62,50 +62,50 @@ module _ {t : Settings} {k e s a b c : ℕ} (d : List ℕ) (made : t ≡ setting
   unfolding clear unless-refused
   clear-alike m = alike (λ u. clear u m) (record { refusal = 1; memory = m }) (λ u out. rw (is-1 u out))
 
-  pub add-alike : (m : Memory) (p L hop : ℕ) → add (settings-of k d e s a b c) m p L hop ≡ add t m p L hop
-  unfolding add add-refusal route-refusal unless-refused
-  add-alike m p L hop = alike (λ u. add u m p L hop) (record { refusal = 1; memory = m }) (λ u out. rw (is-1 u out))
+  pub add-alike : (m : Memory) (party p L hop : ℕ) → add (settings-of k d e s a b c) m party p L hop ≡ add t m party p L hop
+  unfolding add add-refusal party-refusal unless-refused
+  add-alike m party p L hop = alike (λ u. add u m party p L hop) (record { refusal = 1; memory = m }) (λ u out. rw (is-1 u out))
 
-  pub withdraw-alike : (m : Memory) (p L : ℕ) → withdraw (settings-of k d e s a b c) m p L ≡ withdraw t m p L
-  unfolding withdraw withdraw-refusal route-refusal unless-refused
-  withdraw-alike m p L = alike (λ u. withdraw u m p L) (record { refusal = 1; memory = m }) (λ u out. rw (is-1 u out))
+  pub withdraw-alike : (m : Memory) (party p L : ℕ) → withdraw (settings-of k d e s a b c) m party p L ≡ withdraw t m party p L
+  unfolding withdraw withdraw-refusal route-refusal party-refusal unless-refused
+  withdraw-alike m party p L = alike (λ u. withdraw u m party p L) (record { refusal = 1; memory = m }) (λ u out. rw (is-1 u out))
 
-  pub change-alike : (m : Memory) (p L hop : ℕ) → change (settings-of k d e s a b c) m p L hop ≡ change t m p L hop
-  unfolding change change-refusal route-refusal unless-refused
-  change-alike m p L hop = alike (λ u. change u m p L hop) (record { refusal = 1; memory = m }) (λ u out. rw (is-1 u out))
+  pub change-alike : (m : Memory) (party p L hop : ℕ) → change (settings-of k d e s a b c) m party p L hop ≡ change t m party p L hop
+  unfolding change change-refusal route-refusal party-refusal unless-refused
+  change-alike m party p L hop = alike (λ u. change u m party p L hop) (record { refusal = 1; memory = m }) (λ u out. rw (is-1 u out))
 
-  pub message-alike : (m : Memory) (message hops : List ℕ) → apply-message (settings-of k d e s a b c) m message hops ≡ apply-message t m message hops
-  unfolding apply-message message-refusal
-  message-alike m message hops = alike (λ u. apply-message u m message hops) (refused-message 1 m) (λ u out. rw (is-1 u out))
+  pub message-alike : (m : Memory) (party : ℕ) (message hops : List ℕ) → apply-message (settings-of k d e s a b c) m party message hops ≡ apply-message t m party message hops
+  unfolding apply-message message-refusal party-refusal
+  message-alike m party message hops = alike (λ u. apply-message u m party message hops) (refused-message 1 m) (λ u out. rw (is-1 u out))
 
   chunk-alike : {C : Type 0} (r : Reading C) (m : Memory) (counts words room chunk : List ℕ)
       → take-chunk (settings-of k d e s a b c) r m counts words room chunk ≡ take-chunk t r m counts words room chunk
-  unfolding take-chunk chunk-refusal
+  unfolding take-chunk chunk-refusal party-refusal
   chunk-alike r m counts words room chunk =
       let bad = ltb 65536 (length chunk) || r .counts-high (r .counts-of counts) in
       alike (λ u. take-chunk u r m counts words room chunk)
       (cond (is-ended words) (as-it-was (ended-number words) m counts words room) (as-it-was (refuse bad 19 1) m counts words room))
       (λ u out. rw (is-1 u out, refused-after bad))
 
-  pub import-alike : (m : Memory) (hops counts words room chunk : List ℕ)
-      → import-chunk (settings-of k d e s a b c) m hops counts words room chunk ≡ import-chunk t m hops counts words room chunk
+  pub import-alike : (m : Memory) (party : ℕ) (hops counts words room chunk : List ℕ)
+      → import-chunk (settings-of k d e s a b c) m party hops counts words room chunk ≡ import-chunk t m party hops counts words room chunk
   unfolding import-chunk
-  import-alike m hops = chunk-alike (importing hops) m
+  import-alike m party hops = chunk-alike (importing party hops) m
 
-  pub replay-alike : (m : Memory) (hops tally words room chunk : List ℕ)
-      → replay-chunk (settings-of k d e s a b c) m hops tally words room chunk ≡ replay-chunk t m hops tally words room chunk
+  pub replay-alike : (m : Memory) (party : ℕ) (hops tally words room chunk : List ℕ)
+      → replay-chunk (settings-of k d e s a b c) m party hops tally words room chunk ≡ replay-chunk t m party hops tally words room chunk
   unfolding replay-chunk
-  replay-alike m hops = chunk-alike (replaying hops) m
+  replay-alike m party hops = chunk-alike (replaying party hops) m
 
   pub vector-alike : (counters slots : List ℕ) (address : ℕ) → c-match-vector (settings-of k d e s a b c) counters slots address ≡ c-match-vector t counters slots address
   unfolding c-match-vector match-vector
   vector-alike counters slots address = alike (λ u. c-match-vector u counters slots address) (vector-number (record { refusal = 1; vector = 0 })) (λ u out. rw (is-1 u out))
 
-  pub lookup-alike : (counters slots : List ℕ) (address : ℕ) → c-lookup (settings-of k d e s a b c) counters slots address ≡ c-lookup t counters slots address
-  unfolding c-lookup lookup
-  lookup-alike counters slots address = alike (λ u. c-lookup u counters slots address) (answer-number (refused 1)) (λ u out. rw (is-1 u out))
+  pub lookup-alike : (counters slots : List ℕ) (party address : ℕ) → c-lookup (settings-of k d e s a b c) counters slots party address ≡ c-lookup t counters slots party address
+  unfolding c-lookup lookup party-refusal
+  lookup-alike counters slots party address = alike (λ u. c-lookup u counters slots party address) (answer-number (refused 1)) (λ u out. rw (is-1 u out))
 
-  pub list-alike : (counters slots addresses results : List ℕ)
-      → c-lookup-list (settings-of k d e s a b c) counters slots addresses results ≡ c-lookup-list t counters slots addresses results
-  unfolding c-lookup-list listed c-list-refusal list-refusal
-  list-alike counters slots addresses results = alike (λ u. c-lookup-list u counters slots addresses results) (answered 1 results) (λ u out. rw (is-1 u out))
+  pub list-alike : (counters slots : List ℕ) (party : ℕ) (addresses results : List ℕ)
+      → c-lookup-list (settings-of k d e s a b c) counters slots party addresses results ≡ c-lookup-list t counters slots party addresses results
+  unfolding c-lookup-list listed c-list-refusal list-refusal party-refusal
+  list-alike counters slots party addresses results = alike (λ u. c-lookup-list u counters slots party addresses results) (answered 1 results) (λ u out. rw (is-1 u out))

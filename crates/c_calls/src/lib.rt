@@ -11,6 +11,7 @@ use refusals::refuse_list;
 use rules::Answer;
 use rules::Settings;
 use rules::Vector;
+use settings::refuse_party_sizes;
 use settings::refuse_sizes;
 use vectors::vector_of;
 
@@ -42,35 +43,44 @@ fn refuse_bytes(settings: Settings, counters: &[u8], slots: &[u8]) -> u32
     refuse_sizes(settings, counters.len(), word_count(slots))
 }
 
-// The answer to an address. d is the list that the settings were made of.
-pub fn lookup(settings: Settings, d: &[u8], counters: &[u8], slots: &[u8], address: u32) -> Answer
+// The answer to a party's address. d is the list that the settings were made of.
+pub fn lookup(
+    settings: Settings,
+    d: &[u8],
+    counters: &[u8],
+    slots: &[u8],
+    party: u32,
+    address: u32,
+) -> Answer
     requires { ⌜ settings .d ≡ whole (now d) ⌝ }
-    ensures { λ r. ⌜ r ≡ lookup settings (lent (now (counters .entry)) (words (now (slots .entry)))) address ⌝ }
+    ensures { λ r. ⌜ r ≡ lookup settings (lent (now (counters .entry)) (words (now (slots .entry)))) party address ⌝ }
 {
-    let refusal = refuse_bytes(settings, counters, slots);
+    let refusal = refuse_party_sizes(settings, counters.len(), word_count(slots), party);
     if refusal != 0 {
         return answer_refused(refusal);
     }
     let claimed = vector_of(settings, d, counters, address);
-    answer_in_bytes(settings, slots, address, claimed)
+    answer_in_bytes(settings, slots, party, address, claimed)
 }
 
-// The answers to a list of addresses, where addresses and results are bytes as the slots are.
+// The answers to a party's list of addresses, where addresses and results are bytes as the slots are.
 pub fn lookup_list(
     settings: Settings,
     d: &[u8],
     counters: &[u8],
     slots: &[u8],
+    party: u32,
     addresses: &[u8],
     results: &mut [u8],
 ) -> u32
     requires { ⌜ settings .d ≡ whole (now d) ⌝ }
-    ensures { λ r. ⌜ c-lookup-list settings (now (counters .entry)) (now (slots .entry)) (now (addresses .entry)) (now (results .entry)) ≡ answered r (now (results .exit)) ⌝ }
+    ensures { λ r. ⌜ c-lookup-list settings (now (counters .entry)) (now (slots .entry)) party (now (addresses .entry)) (now (results .entry)) ≡ answered r (now (results .exit)) ⌝ }
 {
     let refused = refuse_list(
         settings,
         counters.len(),
         word_count(slots),
+        party,
         addresses.len(),
         results.len(),
     );
@@ -80,7 +90,7 @@ pub fn lookup_list(
     if addresses.len() % 4 != 0 {
         return 18;
     }
-    list_in_bytes(settings, d, counters, slots, addresses, results);
+    list_in_bytes(settings, d, counters, slots, party, addresses, results);
     0
 }
 

@@ -22,7 +22,7 @@ use Rattle.import_format.specs.Importing.{importing, import-chunk}
 use Rattle.replay_format.specs.Messages.{record-bad}
 use Rattle.replay_format.specs.Replaying.{replaying, replay-chunk}
 use Rattle.c_numbers.specs.Fitting.{RefusalFits}
-use Rattle.c_numbers.proofs.Fitting.{memory-fits}
+use Rattle.c_numbers.proofs.Fitting.{party-fits}
 
 -- what holds of both holds of either
 either : {X : Type 0} (P : X → Type 0) (b : Bool) {x y : X} → P x → P y → P (cond b x y)
@@ -118,16 +118,16 @@ module _ {C : Type 0} (t : Settings) (r : Reading C) (fits : (bytes : List ℕ) 
   chunk-fits m counts words room chunk =
       let high = r .counts-high (r .counts-of counts) in
       either (λ (u : Chunked). RefusalFits (u .number)) (is-ended words) (ended-fits words)
-      (either (λ (u : Chunked). RefusalFits (u .number)) (eqb (chunk-refusal t m high chunk) 0)
+      (either (λ (u : Chunked). RefusalFits (u .number)) (eqb (chunk-refusal t m (r .party) high chunk) 0)
       (number-fits (taken-fits (r .kind) (doing t r) record-fits over-fits (taken-up r m counts words room) chunk (kept-fits (r .kind) words room)))
-      (either RefusalFits (ltb 65536 (length chunk) || high) (lit< tt) (memory-fits t m)))
+      (either RefusalFits (ltb 65536 (length chunk) || high) (lit< tt) (party-fits t m (r .party))))
 
 -- and that of a chunk of a dump,
-pub import-fits : (t : Settings) (m : Memory) (hops counts words room chunk : List ℕ) → RefusalFits (import-chunk t m hops counts words room chunk .number)
+pub import-fits : (t : Settings) (m : Memory) (party : ℕ) (hops counts words room chunk : List ℕ) → RefusalFits (import-chunk t m party hops counts words room chunk .number)
 unfolding import-chunk importing
-import-fits t m hops = chunk-fits t (importing hops) (λ bytes. either RefusalFits (record-good bytes) (lit< tt) (lit< tt)) m
+import-fits t m party hops = chunk-fits t (importing party hops) (λ bytes. either RefusalFits (record-good bytes) (lit< tt) (lit< tt)) m
 
 -- and of a day.
-pub replay-fits : (t : Settings) (m : Memory) (hops tally words room chunk : List ℕ) → RefusalFits (replay-chunk t m hops tally words room chunk .number)
+pub replay-fits : (t : Settings) (m : Memory) (party : ℕ) (hops tally words room chunk : List ℕ) → RefusalFits (replay-chunk t m party hops tally words room chunk .number)
 unfolding replay-chunk replaying
-replay-fits t m hops = chunk-fits t (replaying hops) (λ bytes. either RefusalFits (record-bad bytes) (lit< tt) (lit< tt)) m
+replay-fits t m party hops = chunk-fits t (replaying party hops) (λ bytes. either RefusalFits (record-bad bytes) (lit< tt) (lit< tt)) m

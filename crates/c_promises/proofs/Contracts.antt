@@ -73,26 +73,26 @@ unfolding word-sized act
 clear-made κs a r end learnt = record { word = refl; crossed = learnt }
 
 pub add-made : (κs : Lfts 3) (a : ArgsD gateway_add.signature κs) (r : ResD gateway_add.signature κs) (end : AtExit gateway_add.ended κs) → GoodsP κs add-kinds.ps a → add-reads.Learnt κs a r end
-    → Updated (settings a) (Add (past a .1 .1 .0) (past a .1 .1 .1 .0) (past a .1 .1 .1 .1 .0)) (lent (now (past a .0)) (now (past a .1 .0))) r (lent (now (past end .0)) (now (past end .1 .0)))
+    → Updated (settings a) (Add (past a .1 .1 .0) (past a .1 .1 .1 .0) (past a .1 .1 .1 .1 .0) (past a .1 .1 .1 .1 .1 .0)) (lent (now (past a .0)) (now (past a .1 .0))) r (lent (now (past end .0)) (now (past end .1 .0)))
 unfolding word-sized act
-add-made κs a r end good learnt = record { word = lt-ltb _ _ (past good .1 .1 .0 .1); crossed = learnt }
+add-made κs a r end good learnt = record { word = lt-ltb _ _ (past good .1 .1 .1 .0 .1); crossed = learnt }
 
 pub withdraw-made : (κs : Lfts 3) (a : ArgsD gateway_withdraw.signature κs) (r : ResD gateway_withdraw.signature κs) (end : AtExit gateway_withdraw.ended κs) → GoodsP κs withdraw-kinds.ps a → withdraw-reads.Learnt κs a r end
-    → Updated (settings a) (Withdraw (past a .1 .1 .0) (past a .1 .1 .1 .0)) (lent (now (past a .0)) (now (past a .1 .0))) r (lent (now (past end .0)) (now (past end .1 .0)))
+    → Updated (settings a) (Withdraw (past a .1 .1 .0) (past a .1 .1 .1 .0) (past a .1 .1 .1 .1 .0)) (lent (now (past a .0)) (now (past a .1 .0))) r (lent (now (past end .0)) (now (past end .1 .0)))
 unfolding word-sized act
-withdraw-made κs a r end good learnt = record { word = lt-ltb _ _ (past good .1 .1 .0 .1); crossed = learnt }
+withdraw-made κs a r end good learnt = record { word = lt-ltb _ _ (past good .1 .1 .1 .0 .1); crossed = learnt }
 
 pub change-made : (κs : Lfts 3) (a : ArgsD gateway_change.signature κs) (r : ResD gateway_change.signature κs) (end : AtExit gateway_change.ended κs) → GoodsP κs change-kinds.ps a → change-reads.Learnt κs a r end
-    → Updated (settings a) (Change (past a .1 .1 .0) (past a .1 .1 .1 .0) (past a .1 .1 .1 .1 .0)) (lent (now (past a .0)) (now (past a .1 .0))) r (lent (now (past end .0)) (now (past end .1 .0)))
+    → Updated (settings a) (Change (past a .1 .1 .0) (past a .1 .1 .1 .0) (past a .1 .1 .1 .1 .0) (past a .1 .1 .1 .1 .1 .0)) (lent (now (past a .0)) (now (past a .1 .0))) r (lent (now (past end .0)) (now (past end .1 .0)))
 unfolding word-sized act
-change-made κs a r end good learnt = record { word = lt-ltb _ _ (past good .1 .1 .0 .1); crossed = learnt }
+change-made κs a r end good learnt = record { word = lt-ltb _ _ (past good .1 .1 .1 .0 .1); crossed = learnt }
 
 -- Lookup and match vector read the slots as bytes. Where these are the bytes of the words that an update left, they are
 -- asked of the same table.
 
 pub lookup-made : (κs : Lfts 3) (a : ArgsD gateway_lookup.signature κs) (r : ResD gateway_lookup.signature κs) (end : AtExit gateway_lookup.ended κs) → GoodsP κs lookup-kinds.ps a → lookup-reads.Learnt κs a r end
-    → (slots : List ℕ) → now (past a .1 .0) ≡ bytes-of slots → LookedUp (settings a) (lent (now (past a .0)) slots) (past a .1 .1 .0) r
-lookup-made κs a r end good learnt slots lies = record { word = past good .1 .1 .0 .1; crossed = rw (← lies) learnt }
+    → (slots : List ℕ) → now (past a .1 .0) ≡ bytes-of slots → LookedUp (settings a) (lent (now (past a .0)) slots) (past a .1 .1 .0) (past a .1 .1 .1 .0) r
+lookup-made κs a r end good learnt slots lies = record { word = past good .1 .1 .1 .0 .1; crossed = rw (← lies) learnt }
 
 pub match-vector-made : (κs : Lfts 3) (a : ArgsD gateway_match_vector.signature κs) (r : ResD gateway_match_vector.signature κs) (end : AtExit gateway_match_vector.ended κs) → GoodsP κs match-vector-kinds.ps a → match-vector-reads.Learnt κs a r end
     → (slots : List ℕ) → now (past a .1 .0) ≡ bytes-of slots → Matched (settings a) (lent (now (past a .0)) slots) (past a .1 .1 .0) r
@@ -100,13 +100,13 @@ match-vector-made κs a r end good learnt slots lies = record { word = past good
 
 -- A list of addresses also tells what it left of the results.
 pub list-made : (κs : Lfts 5) (a : ArgsD gateway_lookup_list.signature κs) (r : ResD gateway_lookup_list.signature κs) (end : AtExit gateway_lookup_list.ended κs) → list-reads.Learnt κs a r end
-    → (slots : List ℕ) → now (past a .1 .0) ≡ bytes-of slots → areBytes (now (past a .1 .1 .0)) ≡ true
-    → ListedUp (settings a) (lent (now (past a .0)) slots) (now (past a .1 .1 .0)) (now (past a .1 .1 .1 .0)) r (now (past end .1 .1 .1 .0))
+    → (slots : List ℕ) → now (past a .1 .0) ≡ bytes-of slots → areBytes (now (past a .1 .1 .1 .0)) ≡ true
+    → ListedUp (settings a) (lent (now (past a .0)) slots) (past a .1 .1 .0) (now (past a .1 .1 .1 .0)) (now (past a .1 .1 .1 .1 .0)) r (now (past end .1 .1 .1 .1 .0))
 list-made κs a r end learnt slots lies bytes = record { bytes = bytes; crossed = rw (← lies) learnt }
 
 pub update-made : (κs : Lfts 5) (a : ArgsD gateway_update.signature κs) (r : ResD gateway_update.signature κs) (end : AtExit gateway_update.ended κs) → update-reads.Learnt κs a r end
-    → areBytes (now (past a .1 .1 .0)) ≡ true
-    → Sent (settings a) (lent (now (past a .0)) (now (past a .1 .0))) (now (past a .1 .1 .0)) (now (past a .1 .1 .1 .0)) r (lent (now (past end .0)) (now (past end .1 .0)))
+    → areBytes (now (past a .1 .1 .1 .0)) ≡ true
+    → Sent (settings a) (lent (now (past a .0)) (now (past a .1 .0))) (past a .1 .1 .0) (now (past a .1 .1 .1 .0)) (now (past a .1 .1 .1 .1 .0)) r (lent (now (past end .0)) (now (past end .1 .0)))
 update-made κs a r end learnt bytes = record { bytes = bytes; crossed = learnt }
 
 pub written-made : (κs : Lfts 1) (a : ArgsD gateway_write_withdrawal.signature κs) (r : ResD gateway_write_withdrawal.signature κs) (end : AtExit gateway_write_withdrawal.ended κs) → written-reads.Learnt κs a r end
@@ -115,19 +115,19 @@ written-made κs a r end learnt = learnt
 
 -- A chunk of a dump: before it the number is that of the chunk before, which says nothing.
 pub import-made : (κs : Lfts 8) (a : ArgsD gateway_import.signature κs) (r : ResD gateway_import.signature κs) (end : AtExit gateway_import.ended κs) → import-reads.Learnt κs a r end
-    → areBytes (now (past a .1 .1 .1 .1 .1 .0)) ≡ true → areBytes (now (past a .1 .1 .1 .1 .1 .1 .0)) ≡ true → (number : ℕ)
-    → ChunkImported (settings a) (now (past a .1 .1 .0)) (chunked number (now (past a .1 .1 .1 .0)) (now (past a .1 .1 .1 .1 .0)) (now (past a .1 .1 .1 .1 .1 .0)) (now (past a .0)) (now (past a .1 .0)))
-    (now (past a .1 .1 .1 .1 .1 .1 .0)) r
-    (chunked (gateway-refusal r) (now (past end .1 .1 .1 .0)) (now (past end .1 .1 .1 .1 .0)) (now (past end .1 .1 .1 .1 .1 .0)) (now (past end .0)) (now (past end .1 .0)))
+    → areBytes (now (past a .1 .1 .1 .1 .1 .1 .0)) ≡ true → areBytes (now (past a .1 .1 .1 .1 .1 .1 .1 .0)) ≡ true → (number : ℕ)
+    → ChunkImported (settings a) (past a .1 .1 .0) (now (past a .1 .1 .1 .0)) (chunked number (now (past a .1 .1 .1 .1 .0)) (now (past a .1 .1 .1 .1 .1 .0)) (now (past a .1 .1 .1 .1 .1 .1 .0)) (now (past a .0)) (now (past a .1 .0)))
+    (now (past a .1 .1 .1 .1 .1 .1 .1 .0)) r
+    (chunked (gateway-refusal r) (now (past end .1 .1 .1 .1 .0)) (now (past end .1 .1 .1 .1 .1 .0)) (now (past end .1 .1 .1 .1 .1 .1 .0)) (now (past end .0)) (now (past end .1 .0)))
 unfolding import-chunk
 import-made κs a r end learnt room-bytes bytes number = record { room-bytes = room-bytes; bytes = bytes; number = refl; crossed = learnt }
 
 -- So a chunk of a day.
 pub replay-made : (κs : Lfts 8) (a : ArgsD gateway_replay.signature κs) (r : ResD gateway_replay.signature κs) (end : AtExit gateway_replay.ended κs) → replay-reads.Learnt κs a r end
-    → areBytes (now (past a .1 .1 .1 .1 .1 .0)) ≡ true → areBytes (now (past a .1 .1 .1 .1 .1 .1 .0)) ≡ true → (number : ℕ)
-    → ChunkReplayed (settings a) (now (past a .1 .1 .0)) (chunked number (now (past a .1 .1 .1 .0)) (now (past a .1 .1 .1 .1 .0)) (now (past a .1 .1 .1 .1 .1 .0)) (now (past a .0)) (now (past a .1 .0)))
-    (now (past a .1 .1 .1 .1 .1 .1 .0)) r
-    (chunked (gateway-refusal r) (now (past end .1 .1 .1 .0)) (now (past end .1 .1 .1 .1 .0)) (now (past end .1 .1 .1 .1 .1 .0)) (now (past end .0)) (now (past end .1 .0)))
+    → areBytes (now (past a .1 .1 .1 .1 .1 .1 .0)) ≡ true → areBytes (now (past a .1 .1 .1 .1 .1 .1 .1 .0)) ≡ true → (number : ℕ)
+    → ChunkReplayed (settings a) (past a .1 .1 .0) (now (past a .1 .1 .1 .0)) (chunked number (now (past a .1 .1 .1 .1 .0)) (now (past a .1 .1 .1 .1 .1 .0)) (now (past a .1 .1 .1 .1 .1 .1 .0)) (now (past a .0)) (now (past a .1 .0)))
+    (now (past a .1 .1 .1 .1 .1 .1 .1 .0)) r
+    (chunked (gateway-refusal r) (now (past end .1 .1 .1 .1 .0)) (now (past end .1 .1 .1 .1 .1 .0)) (now (past end .1 .1 .1 .1 .1 .1 .0)) (now (past end .0)) (now (past end .1 .0)))
 unfolding replay-chunk
 replay-made κs a r end learnt room-bytes bytes number = record { room-bytes = room-bytes; bytes = bytes; number = refl; crossed = learnt }
 
@@ -164,16 +164,16 @@ module _ (w : World) (κs : Lfts 5) (qs : Shares 5) where
   list-owned = owned w list-kinds.ps list-kinds.r κs qs
 
   pub list-bytes-owned : (a : ArgsD gateway_lookup_list.signature κs) (vss : Valss (typesAt (gateway_lookup_list.signature .params) κs))
-      → ent (w .𝓤) (onEntry (w .𝓤) (w .H) (w .𝓖 .A) gateway_lookup_list.signature κs qs a vss) (w .H .⇛ (fact (w .𝓤) (areBytes (now (past a .1 .1 .0)) ≡ true)))
-  list-bytes-owned a vss = elements-owned w list-kinds.ps list-kinds.r κs qs a vss (fInt w8) 9 3 tt (past a .1 .1 .0) refl (all-bytes (now (past a .1 .1 .0)))
+      → ent (w .𝓤) (onEntry (w .𝓤) (w .H) (w .𝓖 .A) gateway_lookup_list.signature κs qs a vss) (w .H .⇛ (fact (w .𝓤) (areBytes (now (past a .1 .1 .1 .0)) ≡ true)))
+  list-bytes-owned a vss = elements-owned w list-kinds.ps list-kinds.r κs qs a vss (fInt w8) 10 3 tt (past a .1 .1 .1 .0) refl (all-bytes (now (past a .1 .1 .1 .0)))
 
   pub update-owned : (a : ArgsD gateway_update.signature κs) (vss : Valss (typesAt (gateway_update.signature .params) κs))
       → ent (w .𝓤) (onEntry (w .𝓤) (w .H) (w .𝓖 .A) gateway_update.signature κs qs a vss) (fact (w .𝓤) (GoodsP κs update-kinds.ps a))
   update-owned = owned w update-kinds.ps update-kinds.r κs qs
 
   pub update-bytes-owned : (a : ArgsD gateway_update.signature κs) (vss : Valss (typesAt (gateway_update.signature .params) κs))
-      → ent (w .𝓤) (onEntry (w .𝓤) (w .H) (w .𝓖 .A) gateway_update.signature κs qs a vss) (w .H .⇛ (fact (w .𝓤) (areBytes (now (past a .1 .1 .0)) ≡ true)))
-  update-bytes-owned a vss = elements-owned w update-kinds.ps update-kinds.r κs qs a vss (fInt w8) 9 3 tt (past a .1 .1 .0) refl (all-bytes (now (past a .1 .1 .0)))
+      → ent (w .𝓤) (onEntry (w .𝓤) (w .H) (w .𝓖 .A) gateway_update.signature κs qs a vss) (w .H .⇛ (fact (w .𝓤) (areBytes (now (past a .1 .1 .1 .0)) ≡ true)))
+  update-bytes-owned a vss = elements-owned w update-kinds.ps update-kinds.r κs qs a vss (fInt w8) 10 3 tt (past a .1 .1 .1 .0) refl (all-bytes (now (past a .1 .1 .1 .0)))
 
 module _ (w : World) (κs : Lfts 1) (qs : Shares 1) where
   pub written-owned : (a : ArgsD gateway_write_withdrawal.signature κs) (vss : Valss (typesAt (gateway_write_withdrawal.signature .params) κs))
@@ -185,19 +185,19 @@ module _ (w : World) (κs : Lfts 8) (qs : Shares 8) (a : ArgsD gateway_import.si
   pub import-owned : ent (w .𝓤) (onEntry (w .𝓤) (w .H) (w .𝓖 .A) gateway_import.signature κs qs a vss) (fact (w .𝓤) (GoodsP κs import-kinds.ps a))
   import-owned = owned w import-kinds.ps import-kinds.r κs qs a vss
 
-  pub room-bytes-owned : ent (w .𝓤) (onEntry (w .𝓤) (w .H) (w .𝓖 .A) gateway_import.signature κs qs a vss) (w .H .⇛ (fact (w .𝓤) (areBytes (now (past a .1 .1 .1 .1 .1 .0)) ≡ true)))
-  room-bytes-owned = array-owned w import-kinds.ps import-kinds.r κs qs a vss 65548 12 6 tt (past a .1 .1 .1 .1 .1 .0) refl
+  pub room-bytes-owned : ent (w .𝓤) (onEntry (w .𝓤) (w .H) (w .𝓖 .A) gateway_import.signature κs qs a vss) (w .H .⇛ (fact (w .𝓤) (areBytes (now (past a .1 .1 .1 .1 .1 .1 .0)) ≡ true)))
+  room-bytes-owned = array-owned w import-kinds.ps import-kinds.r κs qs a vss 65548 13 6 tt (past a .1 .1 .1 .1 .1 .1 .0) refl
 
-  pub chunk-bytes-owned : ent (w .𝓤) (onEntry (w .𝓤) (w .H) (w .𝓖 .A) gateway_import.signature κs qs a vss) (w .H .⇛ (fact (w .𝓤) (areBytes (now (past a .1 .1 .1 .1 .1 .1 .0)) ≡ true)))
-  chunk-bytes-owned = elements-owned w import-kinds.ps import-kinds.r κs qs a vss (fInt w8) 13 7 tt (past a .1 .1 .1 .1 .1 .1 .0) refl (all-bytes (now (past a .1 .1 .1 .1 .1 .1 .0)))
+  pub chunk-bytes-owned : ent (w .𝓤) (onEntry (w .𝓤) (w .H) (w .𝓖 .A) gateway_import.signature κs qs a vss) (w .H .⇛ (fact (w .𝓤) (areBytes (now (past a .1 .1 .1 .1 .1 .1 .1 .0)) ≡ true)))
+  chunk-bytes-owned = elements-owned w import-kinds.ps import-kinds.r κs qs a vss (fInt w8) 14 7 tt (past a .1 .1 .1 .1 .1 .1 .1 .0) refl (all-bytes (now (past a .1 .1 .1 .1 .1 .1 .1 .0)))
 
 -- So of a replay.
 module _ (w : World) (κs : Lfts 8) (qs : Shares 8) (a : ArgsD gateway_replay.signature κs) (vss : Valss (typesAt (gateway_replay.signature .params) κs)) where
   pub replay-owned : ent (w .𝓤) (onEntry (w .𝓤) (w .H) (w .𝓖 .A) gateway_replay.signature κs qs a vss) (fact (w .𝓤) (GoodsP κs replay-kinds.ps a))
   replay-owned = owned w replay-kinds.ps replay-kinds.r κs qs a vss
 
-  pub day-room-bytes-owned : ent (w .𝓤) (onEntry (w .𝓤) (w .H) (w .𝓖 .A) gateway_replay.signature κs qs a vss) (w .H .⇛ (fact (w .𝓤) (areBytes (now (past a .1 .1 .1 .1 .1 .0)) ≡ true)))
-  day-room-bytes-owned = array-owned w replay-kinds.ps replay-kinds.r κs qs a vss 65548 12 6 tt (past a .1 .1 .1 .1 .1 .0) refl
+  pub day-room-bytes-owned : ent (w .𝓤) (onEntry (w .𝓤) (w .H) (w .𝓖 .A) gateway_replay.signature κs qs a vss) (w .H .⇛ (fact (w .𝓤) (areBytes (now (past a .1 .1 .1 .1 .1 .1 .0)) ≡ true)))
+  day-room-bytes-owned = array-owned w replay-kinds.ps replay-kinds.r κs qs a vss 65548 13 6 tt (past a .1 .1 .1 .1 .1 .1 .0) refl
 
-  pub day-bytes-owned : ent (w .𝓤) (onEntry (w .𝓤) (w .H) (w .𝓖 .A) gateway_replay.signature κs qs a vss) (w .H .⇛ (fact (w .𝓤) (areBytes (now (past a .1 .1 .1 .1 .1 .1 .0)) ≡ true)))
-  day-bytes-owned = elements-owned w replay-kinds.ps replay-kinds.r κs qs a vss (fInt w8) 13 7 tt (past a .1 .1 .1 .1 .1 .1 .0) refl (all-bytes (now (past a .1 .1 .1 .1 .1 .1 .0)))
+  pub day-bytes-owned : ent (w .𝓤) (onEntry (w .𝓤) (w .H) (w .𝓖 .A) gateway_replay.signature κs qs a vss) (w .H .⇛ (fact (w .𝓤) (areBytes (now (past a .1 .1 .1 .1 .1 .1 .1 .0)) ≡ true)))
+  day-bytes-owned = elements-owned w replay-kinds.ps replay-kinds.r κs qs a vss (fInt w8) 14 7 tt (past a .1 .1 .1 .1 .1 .1 .1 .0) refl (all-bytes (now (past a .1 .1 .1 .1 .1 .1 .1 .0)))

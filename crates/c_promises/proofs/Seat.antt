@@ -24,11 +24,11 @@ pub did-single : {t : Settings} (m : Memory) (calls : List Call) (answers : List
 unfolding all-word-sized run each next-chunk import-chunk replay-chunk
 did-single m calls answers m' (Single updated) = one-made (updated .word) (update-read updated)
 did-single {t} m calls answers m' (Addresses asked) = made t m [] refl
-did-single {t} m calls answers m' (Heard {message = message} {hops} sent) = rw (message-read sent) at (message-single t m message hops (sent .bytes))
-did-single {t} m calls answers m' (Imported hops {chunk} {s} made) =
-    rw (chunk-read made, made .number) at (import-single t (s .memory) hops (s .counts) (s .words) (s .room) chunk (made .room-bytes) (made .bytes))
-did-single {t} m calls answers m' (Replayed hops {chunk} {s} made) =
-    rw (chunk-read made, made .number) at (replay-single t (s .memory) hops (s .counts) (s .words) (s .room) chunk (made .room-bytes) (made .bytes))
+did-single {t} m calls answers m' (Heard {party = party} {message} {hops} sent) = rw (message-read sent) at (message-single t m party message hops (sent .bytes))
+did-single {t} m calls answers m' (Imported party hops {chunk} {s} made) =
+    rw (chunk-read made, made .number) at (import-single t (s .memory) party hops (s .counts) (s .words) (s .room) chunk (made .room-bytes) (made .bytes))
+did-single {t} m calls answers m' (Replayed party hops {chunk} {s} made) =
+    rw (chunk-read made, made .number) at (replay-single t (s .memory) party hops (s .counts) (s .words) (s .room) chunk (made .room-bytes) (made .bytes))
 
 -- and so are several, one after the other.
 pub c-made : {t : Settings} {m m' : Memory} {calls : List Call} {answers : List ℕ} → Ran (Did t) m calls answers m' → SingleCalls t m calls answers m'

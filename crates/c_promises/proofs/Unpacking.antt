@@ -109,13 +109,13 @@ unfolding gateway-refusal gateway-found gateway-hop gateway-length gateway-probe
 answer-parts r fits = omega (arith, one-if-small (r .found))
 
 -- Over any bytes, also those that are not a whole number of words.
-module _ (t : Settings) (counters bytes : List ℕ) (address answer : ℕ) (given : answer ≡ c-lookup t counters bytes address) where
+module _ (t : Settings) (counters bytes : List ℕ) (party address answer : ℕ) (given : answer ≡ c-lookup t counters bytes party address) where
   abbrev looked : Answer
-  looked = lookup t (lent counters (words bytes)) address
+  looked = lookup t (lent counters (words bytes)) party address
 
   parts : Parts answer looked
   unfolding c-lookup
-  parts = rw given (answer-parts looked (lookup-fits t (lent counters (words bytes)) address))
+  parts = rw given (answer-parts looked (lookup-fits t (lent counters (words bytes)) party address))
 
   -- What is read of a lookup is the answer of the rules.
   pub lookup-read : read-answer answer ≡ looked
@@ -140,26 +140,26 @@ module _ (t : Settings) (counters bytes : List ℕ) (address answer : ℕ) (give
   pub lookup-refused : gateway-refusal answer ≢ 0 → answer ≡ gateway-refusal answer * 2 ^ 48
   unfolding c-lookup answer-number refused one-if
   lookup-refused bad =
-      given ∙ rw (parts .refusal, demand-1.lookup-refused t (lent counters (words bytes)) address (λ good. bad (parts .refusal ∙ good))) (omega arith)
+      given ∙ rw (parts .refusal, demand-1.lookup-refused t (lent counters (words bytes)) party address (λ good. bad (parts .refusal ∙ good))) (omega arith)
 
 -- Over the memory of an update.
-module _ {t : Settings} {m : Memory} {address answer : ℕ} (asked : LookedUp t m address answer) where
+module _ {t : Settings} {m : Memory} {party address answer : ℕ} (asked : LookedUp t m party address answer) where
   -- The whole number,
-  pub looked-up : answer ≡ answer-number (lookup t m address)
+  pub looked-up : answer ≡ answer-number (lookup t m party address)
   unfolding c-lookup
   looked-up = rw (words-again (m .slots)) at (asked .crossed)
 
   -- what is read of it,
-  pub answer-read : read-answer answer ≡ lookup t m address
-  answer-read = rw (words-again (m .slots)) at (lookup-read t (m .counters) (bytes-of (m .slots)) address answer (asked .crossed))
+  pub answer-read : read-answer answer ≡ lookup t m party address
+  answer-read = rw (words-again (m .slots)) at (lookup-read t (m .counters) (bytes-of (m .slots)) party address answer (asked .crossed))
 
   -- and found, which is 1 or 0.
-  pub found-read : gateway-found answer ≡ one-if (lookup t m address .found)
-  found-read = rw (words-again (m .slots)) at (lookup-found t (m .counters) (bytes-of (m .slots)) address answer (asked .crossed))
+  pub found-read : gateway-found answer ≡ one-if (lookup t m party address .found)
+  found-read = rw (words-again (m .slots)) at (lookup-found t (m .counters) (bytes-of (m .slots)) party address answer (asked .crossed))
 
--- Two tables that answer an address alike give the same number.
-pub equal-lookups : {t : Settings} {m other : Memory} {address answer new-answer : ℕ} → LookedUp t m address answer → LookedUp t other address new-answer
-    → lookup t other address ≡ lookup t m address → new-answer ≡ answer
+-- Two tables that answer an address alike for a party give the same number.
+pub equal-lookups : {t : Settings} {m other : Memory} {party address answer new-answer : ℕ} → LookedUp t m party address answer → LookedUp t other party address new-answer
+    → lookup t other party address ≡ lookup t m party address → new-answer ≡ answer
 equal-lookups asked new-asked same = looked-up new-asked ∙ ap answer-number same ∙ sym (looked-up asked)
 
 -- ---- Match vectors
@@ -230,16 +230,16 @@ module _ (refusal refused accepted : ℕ) (few : refused < 2 ^ 12) (few-accepted
       let last : gateway-accepted whole ≡ accepted = omega arith in
       λ k. record { refusal = first k; accepted = last k; refused = reads-refused k }
 
-module _ {t : Settings} {m m' : Memory} {message hops : List ℕ} {answer : ℕ} (sent : Sent t m message hops answer m') where
-  report-read : read-report answer ≡ apply-message t m message hops .report
+module _ {t : Settings} {m m' : Memory} {party : ℕ} {message hops : List ℕ} {answer : ℕ} (sent : Sent t m party message hops answer m') where
+  report-read : read-report answer ≡ apply-message t m party message hops .report
   unfolding report-number
   report-read =
-      let r = apply-message t m message hops .report in
-      let fit = counts-fit t m message hops in
+      let r = apply-message t m party message hops .report in
+      let fit = counts-fit t m party message hops in
       rw (sent .crossed .number) (reads-report (r .refusal) (r .refused) (r .accepted) (fit .1) (fit .0))
 
   -- What is read of a message is its report, and it leaves what the rules leave.
-  pub message-read : apply-message t m message hops ≡ record { report = read-report answer; memory = m' }
+  pub message-read : apply-message t m party message hops ≡ record { report = read-report answer; memory = m' }
   message-read = ap₂ (λ r left. record { report = r; memory = left }) (sym report-read) (sym (sent .crossed .memory))
 
   -- Every other bit of its number is zero.
@@ -252,11 +252,11 @@ module _ {t : Settings} {m m' : Memory} {message hops : List ℕ} {answer : ℕ}
   unfolding report-number refused-message
   message-refused bad =
       let its = ap (λ r. r .refusal) report-read in
-      sent .crossed .number ∙ rw (its, refused-unchanged t m message hops (λ good. bad (its ∙ good))) (omega arith)
+      sent .crossed .number ∙ rw (its, refused-unchanged t m party message hops (λ good. bad (its ∙ good))) (omega arith)
 
 -- Two tables that give a message the same report give the same number.
-pub equal-messages : {t : Settings} {m m' other other' : Memory} {message hops : List ℕ} {answer new-answer : ℕ} → Sent t m message hops answer m' → Sent t other message hops new-answer other'
-    → apply-message t other message hops .report ≡ apply-message t m message hops .report → new-answer ≡ answer
+pub equal-messages : {t : Settings} {m m' other other' : Memory} {party : ℕ} {message hops : List ℕ} {answer new-answer : ℕ} → Sent t m party message hops answer m' → Sent t other party message hops new-answer other'
+    → apply-message t other party message hops .report ≡ apply-message t m party message hops .report → new-answer ≡ answer
 equal-messages sent new-sent same = new-sent .crossed .number ∙ ap report-number same ∙ sym (sent .crossed .number)
 
 -- ---- Streams

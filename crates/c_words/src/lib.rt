@@ -9,7 +9,7 @@ ghost use lib.Seq.{sets};
 ghost use Rattle.rules.specs.Table.{in-range, mark-word, mark-at, default-mark, set-bits, search, words, bytes-of};
 ghost use Rattle.rules.specs.Ready.{Slots};
 ghost use Rattle.buckets.specs.Turns.{holding};
-use buckets::is_occupied;
+use buckets::is_own;
 use buckets::turn_of;
 use rules::Place;
 use rules::Settings;
@@ -60,28 +60,37 @@ pub fn mark_at(slots: &[u8], slot: usize) -> u32
     word_at(slots, 2 * slot + 1)
 }
 
-// The mark of the default route: the last word of all.
-pub fn default_mark(settings: Settings, slots: &[u8]) -> u32
+// The mark in the word of a party's default route: the last word but one, or the last.
+pub fn default_mark(settings: Settings, slots: &[u8], party: u32) -> u32
     requires { ⌜ Slots settings (words (now slots)) ⌝ }
-    ensures { λ r. ⌜ r ≡ default-mark settings (words (now (slots .entry))) ⌝ }
+    requires { ⌜ party ≤ 1 ⌝ }
+    ensures { λ r. ⌜ r ≡ default-mark settings (words (now (slots .entry))) party ⌝ }
 {
-    word_at(slots, word_count(slots) - 1)
+    word_at(slots, word_count(slots) - 2 + party as usize)
 }
 
-// Whether a slot, by its number, is occupied and holds a prefix.
-fn holds_at(slots: &[u8], slot: usize, p: u32) -> bool
+// Whether a slot, by its number, is the party's and holds a prefix.
+fn holds_at(slots: &[u8], party: u32, slot: usize, p: u32) -> bool
     requires { ⌜ mark-word slot < length (words (now slots)) ⌝ }
-    ensures { λ r. ⌜ r ≡ holding (words (now (slots .entry))) slot p ⌝ }
+    requires { ⌜ party ≤ 1 ⌝ }
+    ensures { λ r. ⌜ r ≡ holding (words (now (slots .entry))) party slot p ⌝ }
 {
-    word_at(slots, 2 * slot) == p && is_occupied(mark_at(slots, slot))
+    word_at(slots, 2 * slot) == p && is_own(party, mark_at(slots, slot))
 }
 
 // Searches the buckets of an address at the lengths whose bits are set in `lengths`, as
 // `buckets::search_buckets` does, in slots that are lent as bytes.
-pub fn search_bytes(settings: Settings, slots: &[u8], address: u32, lengths: u32) -> Place
+pub fn search_bytes(
+    settings: Settings,
+    slots: &[u8],
+    party: u32,
+    address: u32,
+    lengths: u32,
+) -> Place
     requires { ⌜ in-range settings ≡ true ⌝ }
     requires { ⌜ Slots settings (words (now slots)) ⌝ }
-    ensures { λ r. ⌜ r ≡ search settings (words (now (slots .entry))) address 0 (set-bits lengths) ⌝ }
+    requires { ⌜ party ≤ 1 ⌝ }
+    ensures { λ r. ⌜ r ≡ search settings (words (now (slots .entry))) party address 0 (set-bits lengths) ⌝ }
 {
     let mut found = Place::Absent(Vacancy::Full);
     let mut left = lengths;
@@ -92,7 +101,7 @@ pub fn search_bytes(settings: Settings, slots: &[u8], address: u32, lengths: u32
         let mut s: u32 = 0;
         while s < settings.s {
             let slot = turn.first + s as usize;
-            if holds_at(slots, slot, turn.p) {
+            if holds_at(slots, party, slot, turn.p) {
                 found = Place::At {
                     slot,
                     length: turn.length,

@@ -63,22 +63,22 @@ unfolding act
 clear-ensures κs a r end learnt = learnt
 
 pub add-ensures : (κs : Lfts 2) (a : ArgsD add.signature κs) (r : ResD add.signature κs) (end : AtExit add.ended κs) → add-reads.Learnt κs a r end
-    → act (a .0) (Add (a .1 .1 .1 .0) (a .1 .1 .1 .1 .0) (a .1 .1 .1 .1 .1 .0)) (lent (now (a .1 .0)) (now (a .1 .1 .0))) ≡ left r (now (end .1 .0)) (now (end .1 .1 .0))
+    → act (a .0) (Add (a .1 .1 .1 .0) (a .1 .1 .1 .1 .0) (a .1 .1 .1 .1 .1 .0) (a .1 .1 .1 .1 .1 .1 .0)) (lent (now (a .1 .0)) (now (a .1 .1 .0))) ≡ left r (now (end .1 .0)) (now (end .1 .1 .0))
 unfolding act
 add-ensures κs a r end learnt = learnt
 
 pub withdraw-ensures : (κs : Lfts 2) (a : ArgsD withdraw.signature κs) (r : ResD withdraw.signature κs) (end : AtExit withdraw.ended κs) → withdraw-reads.Learnt κs a r end
-    → act (a .0) (Withdraw (a .1 .1 .1 .0) (a .1 .1 .1 .1 .0)) (lent (now (a .1 .0)) (now (a .1 .1 .0))) ≡ left r (now (end .1 .0)) (now (end .1 .1 .0))
+    → act (a .0) (Withdraw (a .1 .1 .1 .0) (a .1 .1 .1 .1 .0) (a .1 .1 .1 .1 .1 .0)) (lent (now (a .1 .0)) (now (a .1 .1 .0))) ≡ left r (now (end .1 .0)) (now (end .1 .1 .0))
 unfolding act
 withdraw-ensures κs a r end learnt = learnt
 
 pub change-ensures : (κs : Lfts 2) (a : ArgsD change.signature κs) (r : ResD change.signature κs) (end : AtExit change.ended κs) → change-reads.Learnt κs a r end
-    → act (a .0) (Change (a .1 .1 .1 .0) (a .1 .1 .1 .1 .0) (a .1 .1 .1 .1 .1 .0)) (lent (now (a .1 .0)) (now (a .1 .1 .0))) ≡ left r (now (end .1 .0)) (now (end .1 .1 .0))
+    → act (a .0) (Change (a .1 .1 .1 .0) (a .1 .1 .1 .1 .0) (a .1 .1 .1 .1 .1 .0) (a .1 .1 .1 .1 .1 .1 .0)) (lent (now (a .1 .0)) (now (a .1 .1 .0))) ≡ left r (now (end .1 .0)) (now (end .1 .1 .0))
 unfolding act
 change-ensures κs a r end learnt = learnt
 
 pub lookup-ensures : (κs : Lfts 2) (a : ArgsD lookup.signature κs) (r : ResD lookup.signature κs) (end : AtExit lookup.ended κs) → lookup-reads.Learnt κs a r end
-    → r ≡ looked-up (a .0) (lent (now (a .1 .0)) (now (a .1 .1 .0))) (a .1 .1 .1 .0)
+    → r ≡ looked-up (a .0) (lent (now (a .1 .0)) (now (a .1 .1 .0))) (a .1 .1 .1 .0) (a .1 .1 .1 .1 .0)
 lookup-ensures κs a r end learnt = learnt
 
 pub match-vector-ensures : (κs : Lfts 2) (a : ArgsD match_vector.signature κs) (r : ResD match_vector.signature κs) (end : AtExit match_vector.ended κs) → match-vector-reads.Learnt κs a r end
@@ -86,7 +86,7 @@ pub match-vector-ensures : (κs : Lfts 2) (a : ArgsD match_vector.signature κs)
 match-vector-ensures κs a r end learnt = learnt
 
 pub list-ensures : (κs : Lfts 4) (a : ArgsD lookup_list.signature κs) (r : ResD lookup_list.signature κs) (end : AtExit lookup_list.ended κs) → list-reads.Learnt κs a r end
-    → lookup-list (a .0) (lent (now (a .1 .0)) (now (a .1 .1 .0))) (now (a .1 .1 .1 .0)) (now (a .1 .1 .1 .1 .0)) ≡ answered r (now (end .1 .1 .1 .1 .0))
+    → lookup-list (a .0) (lent (now (a .1 .0)) (now (a .1 .1 .0))) (a .1 .1 .1 .0) (now (a .1 .1 .1 .1 .0)) (now (a .1 .1 .1 .1 .1 .0)) ≡ answered r (now (end .1 .1 .1 .1 .1 .0))
 list-ensures κs a r end learnt = learnt
 
 -- ---- What the arguments' types tell
@@ -136,10 +136,10 @@ module _ (w : World) (κs : Lfts 4) (qs : Shares 4) (a : ArgsD lookup_list.signa
   pub list-owned : ent (w .𝓤) (onEntry (w .𝓤) (w .H) (w .𝓖 .A) lookup_list.signature κs qs a vss) (fact (w .𝓤) (GoodsP κs list-kinds.ps a))
   list-owned = owned w list-kinds.ps list-kinds.r κs qs a vss
 
-  pub list-words-owned : ent (w .𝓤) (onEntry (w .𝓤) (w .H) (w .𝓖 .A) lookup_list.signature κs qs a vss) (w .H .⇛ (fact (w .𝓤) (Words (now (a .1 .1 .1 .0)))))
+  pub list-words-owned : ent (w .𝓤) (onEntry (w .𝓤) (w .H) (w .𝓖 .A) lookup_list.signature κs qs a vss) (w .H .⇛ (fact (w .𝓤) (Words (now (a .1 .1 .1 .1 .0)))))
   list-words-owned =
-      elements-owned w list-kinds.ps list-kinds.r κs qs a vss (fInt w32) 3 2 tt (a .1 .1 .1 .0) refl
-      (λ fits i inside. fit-at (fInt w32) 0 (record { fits = lit< tt }) (now (a .1 .1 .1 .0)) fits i .fits)
+      elements-owned w list-kinds.ps list-kinds.r κs qs a vss (fInt w32) 4 2 tt (a .1 .1 .1 .1 .0) refl
+      (λ fits i inside. fit-at (fInt w32) 0 (record { fits = lit< tt }) (now (a .1 .1 .1 .1 .0)) fits i .fits)
 
 -- ---- Calls as they were made
 
@@ -148,11 +148,11 @@ pub data Called : (t : Settings) (call : Call) (m : Memory) (r : ℕ) (m' : Memo
   ClearCalled : (κs : Lfts 2) (a : ArgsD clear.signature κs) (r : ResD clear.signature κs) (end : AtExit clear.ended κs) → GoodsP κs clear-kinds.ps a → clear-reads.Learnt κs a r end
       → Called (a .0) Clear (lent (now (a .1 .0)) (now (a .1 .1 .0))) r (lent (now (end .1 .0)) (now (end .1 .1 .0)))
   AddCalled : (κs : Lfts 2) (a : ArgsD add.signature κs) (r : ResD add.signature κs) (end : AtExit add.ended κs) → GoodsP κs add-kinds.ps a → add-reads.Learnt κs a r end
-      → Called (a .0) (Add (a .1 .1 .1 .0) (a .1 .1 .1 .1 .0) (a .1 .1 .1 .1 .1 .0)) (lent (now (a .1 .0)) (now (a .1 .1 .0))) r (lent (now (end .1 .0)) (now (end .1 .1 .0)))
+      → Called (a .0) (Add (a .1 .1 .1 .0) (a .1 .1 .1 .1 .0) (a .1 .1 .1 .1 .1 .0) (a .1 .1 .1 .1 .1 .1 .0)) (lent (now (a .1 .0)) (now (a .1 .1 .0))) r (lent (now (end .1 .0)) (now (end .1 .1 .0)))
   WithdrawCalled : (κs : Lfts 2) (a : ArgsD withdraw.signature κs) (r : ResD withdraw.signature κs) (end : AtExit withdraw.ended κs) → GoodsP κs withdraw-kinds.ps a → withdraw-reads.Learnt κs a r end
-      → Called (a .0) (Withdraw (a .1 .1 .1 .0) (a .1 .1 .1 .1 .0)) (lent (now (a .1 .0)) (now (a .1 .1 .0))) r (lent (now (end .1 .0)) (now (end .1 .1 .0)))
+      → Called (a .0) (Withdraw (a .1 .1 .1 .0) (a .1 .1 .1 .1 .0) (a .1 .1 .1 .1 .1 .0)) (lent (now (a .1 .0)) (now (a .1 .1 .0))) r (lent (now (end .1 .0)) (now (end .1 .1 .0)))
   ChangeCalled : (κs : Lfts 2) (a : ArgsD change.signature κs) (r : ResD change.signature κs) (end : AtExit change.ended κs) → GoodsP κs change-kinds.ps a → change-reads.Learnt κs a r end
-      → Called (a .0) (Change (a .1 .1 .1 .0) (a .1 .1 .1 .1 .0) (a .1 .1 .1 .1 .1 .0)) (lent (now (a .1 .0)) (now (a .1 .1 .0))) r (lent (now (end .1 .0)) (now (end .1 .1 .0)))
+      → Called (a .0) (Change (a .1 .1 .1 .0) (a .1 .1 .1 .1 .0) (a .1 .1 .1 .1 .1 .0) (a .1 .1 .1 .1 .1 .1 .0)) (lent (now (a .1 .0)) (now (a .1 .1 .0))) r (lent (now (end .1 .0)) (now (end .1 .1 .0)))
 
 -- its equation is the contract's
 pub called-acted : {t : Settings} {call : Call} {m m' : Memory} {r : ℕ} → Called t call m r m'
@@ -166,43 +166,43 @@ called-acted (ChangeCalled κs a r end good learnt) = change-ensures κs a r end
 pub called-word : {t : Settings} {call : Call} {m m' : Memory} {r : ℕ} → Called t call m r m' → word-sized call ≡ true
 unfolding word-sized
 called-word (ClearCalled κs a r end good learnt) = refl
-called-word (AddCalled κs a r end good learnt) = lt-ltb (a .1 .1 .1 .0) (2 ^ 32) (good .1 .1 .1 .0 .1)
-called-word (WithdrawCalled κs a r end good learnt) = lt-ltb (a .1 .1 .1 .0) (2 ^ 32) (good .1 .1 .1 .0 .1)
-called-word (ChangeCalled κs a r end good learnt) = lt-ltb (a .1 .1 .1 .0) (2 ^ 32) (good .1 .1 .1 .0 .1)
+called-word (AddCalled κs a r end good learnt) = lt-ltb (a .1 .1 .1 .1 .0) (2 ^ 32) (good .1 .1 .1 .1 .0 .1)
+called-word (WithdrawCalled κs a r end good learnt) = lt-ltb (a .1 .1 .1 .1 .0) (2 ^ 32) (good .1 .1 .1 .1 .0 .1)
+called-word (ChangeCalled κs a r end good learnt) = lt-ltb (a .1 .1 .1 .1 .0) (2 ^ 32) (good .1 .1 .1 .1 .0 .1)
 
--- A lookup as it was made, and its answer.
-pub data Looked : (t : Settings) (m : Memory) (address : ℕ) (answer : Answer) → Type 0 where
+-- A lookup of a party's as it was made, and its answer.
+pub data Looked : (t : Settings) (m : Memory) (party address : ℕ) (answer : Answer) → Type 0 where
   LookupCalled : (κs : Lfts 2) (a : ArgsD lookup.signature κs) (r : ResD lookup.signature κs) (end : AtExit lookup.ended κs) → GoodsP κs lookup-kinds.ps a → lookup-reads.Learnt κs a r end
-      → Looked (a .0) (lent (now (a .1 .0)) (now (a .1 .1 .0))) (a .1 .1 .1 .0) r
+      → Looked (a .0) (lent (now (a .1 .0)) (now (a .1 .1 .0))) (a .1 .1 .1 .0) (a .1 .1 .1 .1 .0) r
 
-pub looked-given : {t : Settings} {m : Memory} {address : ℕ} {answer : Answer} → Looked t m address answer → answer ≡ looked-up t m address
+pub looked-given : {t : Settings} {m : Memory} {party address : ℕ} {answer : Answer} → Looked t m party address answer → answer ≡ looked-up t m party address
 looked-given (LookupCalled κs a r end good learnt) = lookup-ensures κs a r end learnt
 
-pub looked-word : {t : Settings} {m : Memory} {address : ℕ} {answer : Answer} → Looked t m address answer → address < 2 ^ 32
-looked-word (LookupCalled κs a r end good learnt) = good .1 .1 .1 .0 .1
+pub looked-word : {t : Settings} {m : Memory} {party address : ℕ} {answer : Answer} → Looked t m party address answer → address < 2 ^ 32
+looked-word (LookupCalled κs a r end good learnt) = good .1 .1 .1 .1 .0 .1
 
--- A list of addresses as it was made, with the number that it gave back and its results before and after.
-pub data ListCalled : (t : Settings) (m : Memory) (addresses results : List ℕ) (r : ℕ) (results' : List ℕ) → Type 0 where
+-- A list of addresses of a party's as it was made, with the number that it gave back and its results before and after.
+pub data ListCalled : (t : Settings) (m : Memory) (party : ℕ) (addresses results : List ℕ) (r : ℕ) (results' : List ℕ) → Type 0 where
   LookupListCalled : (κs : Lfts 4) (a : ArgsD lookup_list.signature κs) (r : ResD lookup_list.signature κs) (end : AtExit lookup_list.ended κs)
-      → GoodsP κs list-kinds.ps a → Words (now (a .1 .1 .1 .0)) → list-reads.Learnt κs a r end
-      → ListCalled (a .0) (lent (now (a .1 .0)) (now (a .1 .1 .0))) (now (a .1 .1 .1 .0)) (now (a .1 .1 .1 .1 .0)) r (now (end .1 .1 .1 .1 .0))
+      → GoodsP κs list-kinds.ps a → Words (now (a .1 .1 .1 .1 .0)) → list-reads.Learnt κs a r end
+      → ListCalled (a .0) (lent (now (a .1 .0)) (now (a .1 .1 .0))) (a .1 .1 .1 .0) (now (a .1 .1 .1 .1 .0)) (now (a .1 .1 .1 .1 .1 .0)) r (now (end .1 .1 .1 .1 .1 .0))
 
-pub list-given : {t : Settings} {m : Memory} {addresses results : List ℕ} {r : ℕ} {results' : List ℕ} → ListCalled t m addresses results r results'
-    → lookup-list t m addresses results ≡ answered r results'
+pub list-given : {t : Settings} {m : Memory} {party : ℕ} {addresses results : List ℕ} {r : ℕ} {results' : List ℕ} → ListCalled t m party addresses results r results'
+    → lookup-list t m party addresses results ≡ answered r results'
 list-given (LookupListCalled κs a r end good words learnt) = list-ensures κs a r end learnt
 
-pub list-words : {t : Settings} {m : Memory} {addresses results : List ℕ} {r : ℕ} {results' : List ℕ} → ListCalled t m addresses results r results' → Words addresses
+pub list-words : {t : Settings} {m : Memory} {party : ℕ} {addresses results : List ℕ} {r : ℕ} {results' : List ℕ} → ListCalled t m party addresses results r results' → Words addresses
 list-words (LookupListCalled κs a r end good words learnt) = words
 
 -- Place i of an accepted list is as a lookup of address i that was made: whatever is promised of a lookup is promised of it.
-pub place-looked : {t : Settings} {m : Memory} {addresses results : List ℕ} {r : ℕ} {results' : List ℕ} → ListCalled t m addresses results r results'
-    → r ≡ 0 → (i : ℕ) → i < length addresses → Looked t m (getD addresses i 0) (answer-at results' i)
+pub place-looked : {t : Settings} {m : Memory} {party : ℕ} {addresses results : List ℕ} {r : ℕ} {results' : List ℕ} → ListCalled t m party addresses results r results'
+    → r ≡ 0 → (i : ℕ) → i < length addresses → Looked t m party (getD addresses i 0) (answer-at results' i)
 place-looked (LookupListCalled κs a r end good words learnt) accepted i inside =
     let told = list-ensures κs a r end learnt in
-    let given : ArgsD lookup.signature (κs .0, (κs .1 .0, tt)) = (a .0, (a .1 .0, (a .1 .1 .0, (getD (now (a .1 .1 .1 .0)) i 0, tt)))) in
-    LookupCalled (κs .0, (κs .1 .0, tt)) given (answer-at (now (end .1 .1 .1 .1 .0)) i) given
-    (good .0, (good .1 .0, (good .1 .1 .0, ((refl, words i inside), tt))))
-    (rw (ap (λ u. u .results) told) at (place-answers (a .0) (lent (now (a .1 .0)) (now (a .1 .1 .0))) (now (a .1 .1 .1 .0)) (now (a .1 .1 .1 .1 .0)) (ap (λ u. u .refusal) told ∙ accepted) i inside))
+    let given : ArgsD lookup.signature (κs .0, (κs .1 .0, tt)) = (a .0, (a .1 .0, (a .1 .1 .0, (a .1 .1 .1 .0, (getD (now (a .1 .1 .1 .1 .0)) i 0, tt))))) in
+    LookupCalled (κs .0, (κs .1 .0, tt)) given (answer-at (now (end .1 .1 .1 .1 .1 .0)) i) given
+    (good .0, (good .1 .0, (good .1 .1 .0, (good .1 .1 .1 .0, ((refl, words i inside), tt)))))
+    (rw (ap (λ u. u .results) told) at (place-answers (a .0) (lent (now (a .1 .0)) (now (a .1 .1 .0))) (a .1 .1 .1 .0) (now (a .1 .1 .1 .1 .0)) (now (a .1 .1 .1 .1 .1 .0)) (ap (λ u. u .refusal) told ∙ accepted) i inside))
 
 -- A match vector as it was asked for, and what was given back.
 pub data Matched : (t : Settings) (m : Memory) (address : ℕ) (answer : Vector) → Type 0 where

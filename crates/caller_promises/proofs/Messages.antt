@@ -37,7 +37,7 @@ use Rattle.message_writers.proofs.write_withdrawal.Reads as written-reads
 -- ---- What a contract tells
 
 pub message-ensures : (κs : Lfts 4) (a : ArgsD apply_message.signature κs) (r : ResD apply_message.signature κs) (end : AtExit apply_message.ended κs) → message-reads.Learnt κs a r end
-    → applied (a .0) (lent (now (a .1 .0)) (now (a .1 .1 .0))) (now (a .1 .1 .1 .0)) (now (a .1 .1 .1 .1 .0)) ≡ reported r (now (end .1 .0)) (now (end .1 .1 .0))
+    → applied (a .0) (lent (now (a .1 .0)) (now (a .1 .1 .0))) (a .1 .1 .1 .0) (now (a .1 .1 .1 .1 .0)) (now (a .1 .1 .1 .1 .1 .0)) ≡ reported r (now (end .1 .0)) (now (end .1 .1 .0))
 message-ensures κs a r end learnt = learnt
 
 pub written-ensures : (κs : Lfts 1) (a : ArgsD write_withdrawal.signature κs) (r : ResD write_withdrawal.signature κs) (end : AtExit write_withdrawal.ended κs) → written-reads.Learnt κs a r end
@@ -59,20 +59,20 @@ module _ (w : World) (κs : Lfts 4) (qs : Shares 4) (a : ArgsD apply_message.sig
   pub message-owned : ent (w .𝓤) (onEntry (w .𝓤) (w .H) (w .𝓖 .A) apply_message.signature κs qs a vss) (fact (w .𝓤) (GoodsP κs message-kinds.ps a))
   message-owned = owned w message-kinds.ps message-kinds.r κs qs a vss
 
-  pub message-bytes-owned : ent (w .𝓤) (onEntry (w .𝓤) (w .H) (w .𝓖 .A) apply_message.signature κs qs a vss) (w .H .⇛ (fact (w .𝓤) (areBytes (now (a .1 .1 .1 .0)) ≡ true)))
-  message-bytes-owned = elements-owned w message-kinds.ps message-kinds.r κs qs a vss (fInt w8) 3 2 tt (a .1 .1 .1 .0) refl (all-bytes (now (a .1 .1 .1 .0)))
+  pub message-bytes-owned : ent (w .𝓤) (onEntry (w .𝓤) (w .H) (w .𝓖 .A) apply_message.signature κs qs a vss) (w .H .⇛ (fact (w .𝓤) (areBytes (now (a .1 .1 .1 .1 .0)) ≡ true)))
+  message-bytes-owned = elements-owned w message-kinds.ps message-kinds.r κs qs a vss (fInt w8) 4 2 tt (a .1 .1 .1 .1 .0) refl (all-bytes (now (a .1 .1 .1 .1 .0)))
 
 -- ---- Messages as they were applied
 
--- A message with the call's arguments at their own types, what these tell, and what its contract told.
-pub data MessageCalled : (t : Settings) (m : Memory) (message hops : List ℕ) (report : Report) (m' : Memory) → Type 0 where
+-- A message for a party with the call's arguments at their own types, what these tell, and what its contract told.
+pub data MessageCalled : (t : Settings) (m : Memory) (party : ℕ) (message hops : List ℕ) (report : Report) (m' : Memory) → Type 0 where
   ApplyMessageCalled : (κs : Lfts 4) (a : ArgsD apply_message.signature κs) (r : ResD apply_message.signature κs) (end : AtExit apply_message.ended κs)
-      → GoodsP κs message-kinds.ps a → areBytes (now (a .1 .1 .1 .0)) ≡ true → message-reads.Learnt κs a r end
-      → MessageCalled (a .0) (lent (now (a .1 .0)) (now (a .1 .1 .0))) (now (a .1 .1 .1 .0)) (now (a .1 .1 .1 .1 .0)) r (lent (now (end .1 .0)) (now (end .1 .1 .0)))
+      → GoodsP κs message-kinds.ps a → areBytes (now (a .1 .1 .1 .1 .0)) ≡ true → message-reads.Learnt κs a r end
+      → MessageCalled (a .0) (lent (now (a .1 .0)) (now (a .1 .1 .0))) (a .1 .1 .1 .0) (now (a .1 .1 .1 .1 .0)) (now (a .1 .1 .1 .1 .1 .0)) r (lent (now (end .1 .0)) (now (end .1 .1 .0)))
 
-pub message-applied : {t : Settings} {m m' : Memory} {message hops : List ℕ} {report : Report} → MessageCalled t m message hops report m'
-    → applied t m message hops ≡ record { report = report; memory = m' }
+pub message-applied : {t : Settings} {m m' : Memory} {party : ℕ} {message hops : List ℕ} {report : Report} → MessageCalled t m party message hops report m'
+    → applied t m party message hops ≡ record { report = report; memory = m' }
 message-applied (ApplyMessageCalled κs a r end good bytes learnt) = message-ensures κs a r end learnt
 
-pub message-bytes : {t : Settings} {m m' : Memory} {message hops : List ℕ} {report : Report} → MessageCalled t m message hops report m' → areBytes message ≡ true
+pub message-bytes : {t : Settings} {m m' : Memory} {party : ℕ} {message hops : List ℕ} {report : Report} → MessageCalled t m party message hops report m' → areBytes message ≡ true
 message-bytes (ApplyMessageCalled κs a r end good bytes learnt) = bytes

@@ -1,11 +1,11 @@
 -- Calls of crates/table, crates/message_calls, crates/import_calls and crates/replay_calls as they were made, at their own types,
--- meet the premises: each is written down with its arguments and what it gave back, and handed to the promises.
+-- meet the premises, of either party: each is written down with its arguments and what it gave back, and handed to the promises.
 use Prim.Native.Nat.{ℕ, zero, suc}
 use mathlib.Core.Path.{_≡_, refl}
 use mathlib.Core.Bool.{true}
 use mathlib.Core.List.{List, [], _∷_, _++_, map, map-id}
 use native.Mathlib.Omega.{arith}
-use lib.Dec.{ltb, lit<}
+use lib.Dec.{ltb, lit<, lit≤}
 use lib.ListN.{length, replicate}
 use lib.Pow.{areBytes}
 use mir.Syntax.{w8, w32}
@@ -36,10 +36,10 @@ use Rattle.stream_format.specs.Chunks.{record-done, record-over, doing, chunk-r
 use Rattle.import_format.specs.Importing.{counts-more, importing, counts-of, counts-words, counts-high, import-chunk}
 use Rattle.replay_format.specs.Messages.{as-size, family-from, addresses-from, message-from, message-of, is-ipv4, is-update, too-short, holds-update, record-bad, is-applied, record-calls as update-calls}
 use Rattle.replay_format.specs.Replaying.{refused-under, tally-more, tally-of, tally-words, tally-high, replaying, replay-chunk}
-use Rattle.promises.specs.History.{stored-by, History, Stop, Then}
+use Rattle.promises.specs.History.{routes-of, route, stored-by, History, Stop, Then}
 use Rattle.promises.specs.Demands.{Finds, SaysNone, Words, answer-at, paper}
+use Rattle.promises.specs.Parties.{is-call-of, no-clear, made-by, SameRoute}
 use Rattle.promises.proofs.Showing.{sevens, showing}
-use Rattle.promises.proofs.Paper.{route}
 use Rattle.promises.proofs.Matches.{right}
 use Rattle.promises.proofs.Premises.{U}
 use Rattle.promises.proofs.Promises.{finds-longest, says-none}
@@ -53,7 +53,7 @@ use Rattle.caller_promises.proofs.Messages.{MessageCalled, ApplyMessage
 use Rattle.caller_promises.proofs.Streams.{EndCalled, EndStreamCalled, NoneLeft, Next}
 use Rattle.caller_promises.proofs.Imports.{ImportCalled, ImportChunkCalled, called-imports}
 use Rattle.caller_promises.proofs.Replays.{ReplayCalled, ReplayChunkCalled, called-replays}
-use Rattle.caller_promises.proofs.Callers.{Single, Addresses, Heard, Imported, Replayed, served-history, served-stores}
+use Rattle.caller_promises.proofs.Callers.{Single, Addresses, Heard, Imported, Replayed, served-history, served-stores, served-same-for-party}
 
 -- T's settings with this list of D
 abbrev with-list : (d : List ℕ) → Settings
@@ -82,29 +82,37 @@ lending xs = record { ptr = (0, 0); name = 0; now = xs }
 abbrev lifetimes : Lfts 2
 lifetimes = ([], ([], tt))
 
--- the memory cleared, and with 10/8 added
+-- the memory cleared, with 10/8 added for party 1, and then with 10/8 added for party 0 too
 abbrev pub empty : Memory
 empty = clear T sevens .memory
 
 abbrev one : Memory
-one = add T empty (ip 10 0 0 0) 8 7 .memory
+one = add T empty 1 (ip 10 0 0 0) 8 7 .memory
+
+abbrev two : Memory
+two = add T one 0 (ip 10 0 0 0) 8 5 .memory
 
 pub clear-called : Called T Clear sevens 0 empty
 unfolding showing
 clear-called = ClearCalled lifetimes (T, (lending (sevens .counters), (lending (sevens .slots), tt))) 0 (T, (lending (empty .counters), (lending (empty .slots), tt)))
     (settings-good (replicate 32 4) refl refl, ((lit< tt, lit< tt), ((lit< tt, lit< tt), tt))) refl
 
-add-called : Called T (Add (ip 10 0 0 0) 8 7) empty 0 one
+add-called : Called T (Add 1 (ip 10 0 0 0) 8 7) empty 0 one
 unfolding showing
-add-called = AddCalled lifetimes (T, (lending (empty .counters), (lending (empty .slots), (ip 10 0 0 0, (8, (7, tt)))))) 0 (T, (lending (one .counters), (lending (one .slots), (ip 10 0 0 0, (8, (7, tt))))))
-    (settings-good (replicate 32 4) refl refl, ((lit< tt, lit< tt), ((lit< tt, lit< tt), ((refl, lit< tt), ((refl, lit< tt), ((refl, lit< tt), tt)))))) refl
+add-called = AddCalled lifetimes (T, (lending (empty .counters), (lending (empty .slots), (1, (ip 10 0 0 0, (8, (7, tt))))))) 0 (T, (lending (one .counters), (lending (one .slots), (1, (ip 10 0 0 0, (8, (7, tt)))))))
+    (settings-good (replicate 32 4) refl refl, ((lit< tt, lit< tt), ((lit< tt, lit< tt), ((refl, lit< tt), ((refl, lit< tt), ((refl, lit< tt), ((refl, lit< tt), tt))))))) refl
+
+other-called : Called T (Add 0 (ip 10 0 0 0) 8 5) one 0 two
+unfolding showing
+other-called = AddCalled lifetimes (T, (lending (one .counters), (lending (one .slots), (0, (ip 10 0 0 0, (8, (5, tt))))))) 0 (T, (lending (two .counters), (lending (two .slots), (0, (ip 10 0 0 0, (8, (5, tt)))))))
+    (settings-good (replicate 32 4) refl refl, ((lit< tt, lit< tt), ((lit< tt, lit< tt), ((refl, lit< tt), ((refl, lit< tt), ((refl, lit< tt), ((refl, lit< tt), tt))))))) refl
 
 -- ---- Lookups
 
-looked : Looked T one (ip 10 2 2 3) (lookup T one (ip 10 2 2 3))
+looked : Looked T one 1 (ip 10 2 2 3) (lookup T one 1 (ip 10 2 2 3))
 unfolding showing
-looked = LookupCalled lifetimes (T, (lending (one .counters), (lending (one .slots), (ip 10 2 2 3, tt)))) (lookup T one (ip 10 2 2 3)) (T, (lending (one .counters), (lending (one .slots), (ip 10 2 2 3, tt))))
-    (settings-good (replicate 32 4) refl refl, ((lit< tt, lit< tt), ((lit< tt, lit< tt), ((refl, lit< tt), tt)))) refl
+looked = LookupCalled lifetimes (T, (lending (one .counters), (lending (one .slots), (1, (ip 10 2 2 3, tt))))) (lookup T one 1 (ip 10 2 2 3)) (T, (lending (one .counters), (lending (one .slots), (1, (ip 10 2 2 3, tt)))))
+    (settings-good (replicate 32 4) refl refl, ((lit< tt, lit< tt), ((lit< tt, lit< tt), ((refl, lit< tt), ((refl, lit< tt), tt))))) refl
 
 -- 10.2.2.3 and 11.0.0.1, and eight words for their results
 abbrev addresses : List ℕ
@@ -121,66 +129,76 @@ addresses-sized zero inside = lit< tt
 addresses-sized (suc zero) inside = lit< tt
 addresses-sized (suc (suc i)) inside = absurd (omega arith)
 
-list-called : ListCalled T one addresses nines 0 two-answers
+list-called : ListCalled T one 1 addresses nines 0 two-answers
 unfolding showing answer-words list-words listed fourfold list-refusal lookup-list
 list-called = LookupListCalled ([], ([], ([], ([], tt))))
-    (T, (lending (one .counters), (lending (one .slots), (lending addresses, (lending nines, tt))))) 0
-    (T, (lending (one .counters), (lending (one .slots), (lending addresses, (lending two-answers, tt)))))
-    (settings-good (replicate 32 4) refl refl, ((lit< tt, lit< tt), ((lit< tt, lit< tt), ((lit< tt, lit< tt), ((lit< tt, lit< tt), tt))))) addresses-sized refl
+    (T, (lending (one .counters), (lending (one .slots), (1, (lending addresses, (lending nines, tt)))))) 0
+    (T, (lending (one .counters), (lending (one .slots), (1, (lending addresses, (lending two-answers, tt))))))
+    (settings-good (replicate 32 4) refl refl, ((lit< tt, lit< tt), ((lit< tt, lit< tt), ((refl, lit< tt), ((lit< tt, lit< tt), ((lit< tt, lit< tt), tt)))))) addresses-sized refl
 
 -- seven words are refused with 18, and stay as they were
-list-short : ListCalled T empty addresses (replicate 7 9) 18 (replicate 7 9)
+list-short : ListCalled T empty 0 addresses (replicate 7 9) 18 (replicate 7 9)
 unfolding showing answer-words list-words listed fourfold list-refusal lookup-list
 list-short = LookupListCalled ([], ([], ([], ([], tt))))
-    (T, (lending (empty .counters), (lending (empty .slots), (lending addresses, (lending (replicate 7 9), tt))))) 18
-    (T, (lending (empty .counters), (lending (empty .slots), (lending addresses, (lending (replicate 7 9), tt)))))
-    (settings-good (replicate 32 4) refl refl, ((lit< tt, lit< tt), ((lit< tt, lit< tt), ((lit< tt, lit< tt), ((lit< tt, lit< tt), tt))))) addresses-sized refl
+    (T, (lending (empty .counters), (lending (empty .slots), (0, (lending addresses, (lending (replicate 7 9), tt)))))) 18
+    (T, (lending (empty .counters), (lending (empty .slots), (0, (lending addresses, (lending (replicate 7 9), tt))))))
+    (settings-good (replicate 32 4) refl refl, ((lit< tt, lit< tt), ((lit< tt, lit< tt), ((refl, lit< tt), ((lit< tt, lit< tt), ((lit< tt, lit< tt), tt)))))) addresses-sized refl
 
 -- ---- A history
 
 -- a table was cleared, and served a list that it refused, an add, and a list that it accepted
-one-served : History T (Add (ip 10 0 0 0) 8 7 ∷ []) (0 ∷ []) one
+one-served : History T (Add 1 (ip 10 0 0 0) 8 7 ∷ []) (0 ∷ []) one
 one-served = served-history clear-called (Then (Addresses list-short) (Then (Single add-called) (Then (Addresses list-called) Stop)))
 
--- 10.2.2.3 finds the route,
-looked-met : Finds (lookup T one (ip 10 2 2 3)) (route (ip 10 0 0 0) 8 7)
+-- for party 1 10.2.2.3 finds the route,
+looked-met : Finds (lookup T one 1 (ip 10 2 2 3)) (route 1 (ip 10 0 0 0) 8 7)
 unfolding showing
-looked-met = finds-longest one-served (ip 10 2 2 3) (looked-word looked) (route (ip 10 0 0 0) 8 7) (right (ip 10 2 2 3) (stored-by (Add (ip 10 0 0 0) 8 7 ∷ []) (0 ∷ [])))
+looked-met = finds-longest one-served 1 (lit≤ tt) (ip 10 2 2 3) (looked-word looked) (route 1 (ip 10 0 0 0) 8 7) (right (ip 10 2 2 3) (routes-of 1 (stored-by (Add 1 (ip 10 0 0 0) 8 7 ∷ []) (0 ∷ []))))
 
 -- as the first place of the list does, of which the second says none
-list-found : Finds (answer-at two-answers 0) (route (ip 10 0 0 0) 8 7)
+list-found : Finds (answer-at two-answers 0) (route 1 (ip 10 0 0 0) 8 7)
 unfolding showing
 list-found = rw (looked-given (place-looked list-called refl 0 (lit< tt))) looked-met
 
 list-none : SaysNone (answer-at two-answers 1)
 unfolding showing
 list-none = rw (looked-given (place-looked list-called refl 1 (lit< tt)))
-    (says-none one-served (ip 11 0 0 1) (lit< tt) (right (ip 11 0 0 1) (stored-by (Add (ip 10 0 0 0) 8 7 ∷ []) (0 ∷ []))))
+    (says-none one-served 1 (lit≤ tt) (ip 11 0 0 1) (lit< tt) (right (ip 11 0 0 1) (routes-of 1 (stored-by (Add 1 (ip 10 0 0 0) 8 7 ∷ []) (0 ∷ [])))))
+
+-- and for party 0 nothing matches 10.2.2.3
+other-none : SaysNone (lookup T one 0 (ip 10 2 2 3))
+unfolding showing
+other-none = says-none one-served 0 (lit≤ tt) (ip 10 2 2 3) (lit< tt) (right (ip 10 2 2 3) (routes-of 0 (stored-by (Add 1 (ip 10 0 0 0) 8 7 ∷ []) (0 ∷ []))))
+
+-- party 1 is told the same whether or not party 0 adds its own 10/8
+alike-met : SameRoute (lookup T one 1 (ip 10 2 2 3)) (lookup T two 1 (ip 10 2 2 3))
+unfolding made-by is-call-of no-clear
+alike-met = served-same-for-party clear-called (Then (Single add-called) Stop) clear-called (Then (Single add-called) (Then (Single other-called) Stop)) refl refl 1 refl (ip 10 2 2 3) (lit< tt)
 
 -- ---- A message, under filters of unequal size
 
 -- lent memory of the sizes of U that held sevens, and what a clear leaves of it
 abbrev before-U : Memory
-before-U = lent (replicate 688 7) (replicate 257 7)
+before-U = lent (replicate 688 7) (replicate 258 7)
 
 abbrev empty-U : Memory
 empty-U = clear U before-U .memory
 
--- what the message leaves, which withdraws 11/8, not stored, and announces 10/8 with the hop of 192.0.2.1
+-- what party 1's message leaves, which withdraws 11/8, not stored, and announces 10/8 with the hop of 192.0.2.1
 abbrev told : Memory
-told = apply-message U empty-U message hops .memory
+told = apply-message U empty-U 1 message hops .memory
 
 clear-called-U : Called U Clear before-U 0 empty-U
 unfolding showing
 clear-called-U = ClearCalled lifetimes (U, (lending (before-U .counters), (lending (before-U .slots), tt))) 0 (U, (lending (empty-U .counters), (lending (empty-U .slots), tt)))
     (settings-good (U .d) refl refl, ((lit< tt, lit< tt), ((lit< tt, lit< tt), tt))) refl
 
-message-called : MessageCalled U empty-U message hops (record { refusal = 0; accepted = 1; refused = 1 }) told
+message-called : MessageCalled U empty-U 1 message hops (record { refusal = 0; accepted = 1; refused = 1 }) told
 unfolding reading showing
 message-called = ApplyMessageCalled ([], ([], ([], ([], tt))))
-    (U, (lending (empty-U .counters), (lending (empty-U .slots), (lending message, (lending hops, tt))))) (record { refusal = 0; accepted = 1; refused = 1 })
-    (U, (lending (told .counters), (lending (told .slots), (lending message, (lending hops, tt)))))
-    (settings-good (U .d) refl refl, ((lit< tt, lit< tt), ((lit< tt, lit< tt), ((lit< tt, lit< tt), ((lit< tt, lit< tt), tt))))) refl refl
+    (U, (lending (empty-U .counters), (lending (empty-U .slots), (1, (lending message, (lending hops, tt)))))) (record { refusal = 0; accepted = 1; refused = 1 })
+    (U, (lending (told .counters), (lending (told .slots), (1, (lending message, (lending hops, tt))))))
+    (settings-good (U .d) refl refl, ((lit< tt, lit< tt), ((lit< tt, lit< tt), ((refl, lit< tt), ((lit< tt, lit< tt), ((lit< tt, lit< tt), tt)))))) refl refl
 
 -- the first call is refused, and the second accepted
 message-served : History U calls (7 ∷ 0 ∷ []) told
@@ -192,10 +210,10 @@ message-stored : stored-by calls (7 ∷ 0 ∷ []) ≡ paper U [] calls .last
 unfolding heard-calls reading showing
 message-stored = served-stores clear-called-U (Then (Heard message-called) Stop)
 
--- 10.2.2.3 gets the hop of the list's second place
-message-found : Finds (lookup U told (ip 10 2 2 3)) (route (ip 10 0 0 0) 8 1)
+-- for party 1 10.2.2.3 gets the hop of the list's second place
+message-found : Finds (lookup U told 1 (ip 10 2 2 3)) (route 1 (ip 10 0 0 0) 8 1)
 unfolding showing
-message-found = finds-longest message-served (ip 10 2 2 3) (lit< tt) (route (ip 10 0 0 0) 8 1) (right (ip 10 2 2 3) (stored-by calls (7 ∷ 0 ∷ [])))
+message-found = finds-longest message-served 1 (lit≤ tt) (ip 10 2 2 3) (lit< tt) (route 1 (ip 10 0 0 0) 8 1) (right (ip 10 2 2 3) (routes-of 1 (stored-by calls (7 ∷ 0 ∷ []))))
 
 -- ---- A dump of one record, in one chunk
 
@@ -216,21 +234,21 @@ abbrev pub begun : Memory → Chunked
 begun m = chunked 0 (replicate 3 0) (replicate 3 0) (replicate 65548 0) (m .counters) (m .slots)
 
 abbrev filled : Chunked
-filled = next-chunk U (importing hops) (begun empty-U) dump
+filled = next-chunk U (importing 0 hops) (begun empty-U) dump
 
 pub zeros-bytes : (n : ℕ) → areBytes (replicate n 0) ≡ true
 zeros-bytes zero = refl
 zeros-bytes (suc n) = zeros-bytes n
 
-import-called : ImportCalled U hops (begun empty-U) dump filled
+import-called : ImportCalled U 0 hops (begun empty-U) dump filled
 unfolding next-chunk import-chunk showing
 import-called = ImportChunkCalled ([], ([], ([], ([], ([], ([], ([], tt)))))))
-    (U, (lending (empty-U .counters), (lending (empty-U .slots), (lending hops, (lending (replicate 3 0), (lending (replicate 3 0), (lending (replicate 65548 0), (lending dump, tt)))))))) (filled .number)
-    (U, (lending (filled .memory .counters), (lending (filled .memory .slots), (lending hops, (lending (filled .counts), (lending (filled .words), (lending (filled .room), (lending dump, tt))))))))
-    (settings-good (U .d) refl refl, ((lit< tt, lit< tt), ((lit< tt, lit< tt), ((lit< tt, lit< tt), (refl, (refl, (refl, ((lit< tt, lit< tt), tt)))))))) (zeros-bytes 65548) refl refl
+    (U, (lending (empty-U .counters), (lending (empty-U .slots), (0, (lending hops, (lending (replicate 3 0), (lending (replicate 3 0), (lending (replicate 65548 0), (lending dump, tt))))))))) (filled .number)
+    (U, (lending (filled .memory .counters), (lending (filled .memory .slots), (0, (lending hops, (lending (filled .counts), (lending (filled .words), (lending (filled .room), (lending dump, tt)))))))))
+    (settings-good (U .d) refl refl, ((lit< tt, lit< tt), ((lit< tt, lit< tt), ((refl, lit< tt), ((lit< tt, lit< tt), (refl, (refl, (refl, ((lit< tt, lit< tt), tt))))))))) (zeros-bytes 65548) refl refl
 
--- its record is the add of 10/8 with the hop of the list's second place, which is accepted
-import-served : History U (Add (ip 10 0 0 0) 8 1 ∷ []) (0 ∷ []) (filled .memory)
+-- its record is party 0's add of 10/8 with the hop of the list's second place, which is accepted
+import-served : History U (Add 0 (ip 10 0 0 0) 8 1 ∷ []) (0 ∷ []) (filled .memory)
 unfolding filling
 import-served = served-history clear-called-U (Then (Imported import-called) Stop)
 
@@ -238,13 +256,13 @@ counts-met : filled .counts ≡ 1 ∷ 0 ∷ 0 ∷ []
 unfolding filling
 counts-met = refl
 
--- 10.2.2.3 gets that hop
-import-found : Finds (lookup U (filled .memory) (ip 10 2 2 3)) (route (ip 10 0 0 0) 8 1)
+-- for party 0 10.2.2.3 gets that hop
+import-found : Finds (lookup U (filled .memory) 0 (ip 10 2 2 3)) (route 0 (ip 10 0 0 0) 8 1)
 unfolding showing
-import-found = finds-longest import-served (ip 10 2 2 3) (lit< tt) (route (ip 10 0 0 0) 8 1) (right (ip 10 2 2 3) (stored-by (Add (ip 10 0 0 0) 8 1 ∷ []) (0 ∷ [])))
+import-found = finds-longest import-served 0 (lit≤ tt) (ip 10 2 2 3) (lit< tt) (route 0 (ip 10 0 0 0) 8 1) (right (ip 10 2 2 3) (routes-of 0 (stored-by (Add 0 (ip 10 0 0 0) 8 1 ∷ []) (0 ∷ []))))
 
 -- the chunk was taken, and the end after it is given 0
-chunks-met : Imports U hops (begun empty-U) (dump ∷ []) filled
+chunks-met : Imports U 0 hops (begun empty-U) (dump ∷ []) filled
 unfolding filling
 chunks-met = called-imports (Next import-called refl NoneLeft)
 
@@ -271,16 +289,16 @@ abbrev pub day-begun : Memory → Chunked
 day-begun m = chunked 0 (replicate 23 0) (replicate 3 0) (replicate 65548 0) (m .counters) (m .slots)
 
 abbrev run-over : Chunked
-run-over = next-chunk U (replaying hops) (day-begun empty-U) day
+run-over = next-chunk U (replaying 1 hops) (day-begun empty-U) day
 
-replay-called : ReplayCalled U hops (day-begun empty-U) day run-over
+replay-called : ReplayCalled U 1 hops (day-begun empty-U) day run-over
 unfolding next-chunk replay-chunk showing
 replay-called = ReplayChunkCalled ([], ([], ([], ([], ([], ([], ([], tt)))))))
-    (U, (lending (empty-U .counters), (lending (empty-U .slots), (lending hops, (lending (replicate 23 0), (lending (replicate 3 0), (lending (replicate 65548 0), (lending day, tt)))))))) (run-over .number)
-    (U, (lending (run-over .memory .counters), (lending (run-over .memory .slots), (lending hops, (lending (run-over .counts), (lending (run-over .words), (lending (run-over .room), (lending day, tt))))))))
-    (settings-good (U .d) refl refl, ((lit< tt, lit< tt), ((lit< tt, lit< tt), ((lit< tt, lit< tt), (refl, (refl, (refl, ((lit< tt, lit< tt), tt)))))))) (zeros-bytes 65548) refl refl
+    (U, (lending (empty-U .counters), (lending (empty-U .slots), (1, (lending hops, (lending (replicate 23 0), (lending (replicate 3 0), (lending (replicate 65548 0), (lending day, tt))))))))) (run-over .number)
+    (U, (lending (run-over .memory .counters), (lending (run-over .memory .slots), (1, (lending hops, (lending (run-over .counts), (lending (run-over .words), (lending (run-over .room), (lending day, tt)))))))))
+    (settings-good (U .d) refl refl, ((lit< tt, lit< tt), ((lit< tt, lit< tt), ((refl, lit< tt), ((lit< tt, lit< tt), (refl, (refl, (refl, ((lit< tt, lit< tt), tt))))))))) (zeros-bytes 65548) refl refl
 
--- the two calls of its message: the first is refused, and the second accepted
+-- the two calls of its message, party 1's: the first is refused, and the second accepted
 replay-served : History U calls (7 ∷ 0 ∷ []) (run-over .memory)
 unfolding running
 replay-served = served-history clear-called-U (Then (Replayed replay-called) Stop)
@@ -291,6 +309,6 @@ unfolding running
 tally-met = refl
 
 -- the chunk was taken
-days-met : Replays U hops (day-begun empty-U) (day ∷ []) run-over
+days-met : Replays U 1 hops (day-begun empty-U) (day ∷ []) run-over
 unfolding running
 days-met = called-replays (Next replay-called refl NoneLeft)

@@ -32,14 +32,14 @@ use Rattle.replay_calls.proofs.replay_chunk
 use Rattle.replay_calls.proofs.replay_chunk.Kinds as replay-kinds
 use Rattle.replay_calls.proofs.replay_chunk.Reads as replay-reads
 
--- the arguments that come after settings, counters and slots: next hops, tally, words, room and chunk
-abbrev past : {T C S Rest : Type 0} → T × (C × (S × Rest)) → Rest
-past a = a .1 .1 .1
+-- the arguments that come after settings, counters, slots and party: next hops, tally, words, room and chunk
+abbrev past : {T C S P Rest : Type 0} → T × (C × (S × (P × Rest))) → Rest
+past a = a .1 .1 .1 .1
 
 -- ---- What the contract tells
 
 pub replay-ensures : (κs : Lfts 7) (a : ArgsD replay_chunk.signature κs) (r : ResD replay_chunk.signature κs) (end : AtExit replay_chunk.ended κs) → replay-reads.Learnt κs a r end
-    → replay-chunk (a .0) (lent (now (a .1 .0)) (now (a .1 .1 .0))) (now (past a .0)) (now (past a .1 .0)) (now (past a .1 .1 .0)) (now (past a .1 .1 .1 .0)) (now (past a .1 .1 .1 .1 .0))
+    → replay-chunk (a .0) (lent (now (a .1 .0)) (now (a .1 .1 .0))) (a .1 .1 .1 .0) (now (past a .0)) (now (past a .1 .0)) (now (past a .1 .1 .0)) (now (past a .1 .1 .1 .0)) (now (past a .1 .1 .1 .1 .0))
     ≡ chunked r (now (past end .1 .0)) (now (past end .1 .1 .0)) (now (past end .1 .1 .1 .0)) (now (end .1 .0)) (now (end .1 .1 .0))
 replay-ensures κs a r end learnt = learnt
 
@@ -51,30 +51,30 @@ module _ (w : World) (κs : Lfts 7) (qs : Shares 7) (a : ArgsD replay_chunk.sign
   replay-owned = owned w replay-kinds.ps replay-kinds.r κs qs a vss
 
   pub room-bytes-owned : ent (w .𝓤) (onEntry (w .𝓤) (w .H) (w .𝓖 .A) replay_chunk.signature κs qs a vss) (w .H .⇛ (fact (w .𝓤) (areBytes (now (past a .1 .1 .1 .0)) ≡ true)))
-  room-bytes-owned = array-owned w replay-kinds.ps replay-kinds.r κs qs a vss 65548 6 5 tt (past a .1 .1 .1 .0) refl
+  room-bytes-owned = array-owned w replay-kinds.ps replay-kinds.r κs qs a vss 65548 7 5 tt (past a .1 .1 .1 .0) refl
 
   pub chunk-bytes-owned : ent (w .𝓤) (onEntry (w .𝓤) (w .H) (w .𝓖 .A) replay_chunk.signature κs qs a vss) (w .H .⇛ (fact (w .𝓤) (areBytes (now (past a .1 .1 .1 .1 .0)) ≡ true)))
   chunk-bytes-owned =
-      elements-owned w replay-kinds.ps replay-kinds.r κs qs a vss (fInt w8) 7 6 tt (past a .1 .1 .1 .1 .0) refl (all-bytes (now (past a .1 .1 .1 .1 .0)))
+      elements-owned w replay-kinds.ps replay-kinds.r κs qs a vss (fInt w8) 8 6 tt (past a .1 .1 .1 .1 .0) refl (all-bytes (now (past a .1 .1 .1 .1 .0)))
 
 -- ---- Chunks as they were taken
 
--- A chunk with the call's arguments at their own types, what these tell, and what its contract told. What is lent before it,
+-- A chunk for a party with the call's arguments at their own types, what these tell, and what its contract told. What is lent before it,
 -- tally, words, room and table, stands beside the number of the chunk before, which says nothing; what is left, beside its own.
-pub data ReplayCalled : (t : Settings) (hops : List ℕ) (s : Chunked) (chunk : List ℕ) (s' : Chunked) → Type 0 where
+pub data ReplayCalled : (t : Settings) (party : ℕ) (hops : List ℕ) (s : Chunked) (chunk : List ℕ) (s' : Chunked) → Type 0 where
   ReplayChunkCalled : (κs : Lfts 7) (a : ArgsD replay_chunk.signature κs) (r : ResD replay_chunk.signature κs) (end : AtExit replay_chunk.ended κs) {number : ℕ}
       → GoodsP κs replay-kinds.ps a → areBytes (now (past a .1 .1 .1 .0)) ≡ true → areBytes (now (past a .1 .1 .1 .1 .0)) ≡ true → replay-reads.Learnt κs a r end
-      → ReplayCalled (a .0) (now (past a .0)) (chunked number (now (past a .1 .0)) (now (past a .1 .1 .0)) (now (past a .1 .1 .1 .0)) (now (a .1 .0)) (now (a .1 .1 .0)))
+      → ReplayCalled (a .0) (a .1 .1 .1 .0) (now (past a .0)) (chunked number (now (past a .1 .0)) (now (past a .1 .1 .0)) (now (past a .1 .1 .1 .0)) (now (a .1 .0)) (now (a .1 .1 .0)))
       (now (past a .1 .1 .1 .1 .0)) (chunked r (now (past end .1 .0)) (now (past end .1 .1 .0)) (now (past end .1 .1 .1 .0)) (now (end .1 .0)) (now (end .1 .1 .0)))
 
-pub replay-applied : {t : Settings} {hops chunk : List ℕ} {s s' : Chunked} → ReplayCalled t hops s chunk s' → next-chunk t (replaying hops) s chunk ≡ s'
+pub replay-applied : {t : Settings} {party : ℕ} {hops chunk : List ℕ} {s s' : Chunked} → ReplayCalled t party hops s chunk s' → next-chunk t (replaying party hops) s chunk ≡ s'
 unfolding next-chunk replay-chunk
 replay-applied (ReplayChunkCalled κs a r end good room-bytes bytes learnt) = replay-ensures κs a r end learnt
 
-pub replay-bytes : {t : Settings} {hops chunk : List ℕ} {s s' : Chunked} → ReplayCalled t hops s chunk s' → (areBytes (s .room) ≡ true) × (areBytes chunk ≡ true)
+pub replay-bytes : {t : Settings} {party : ℕ} {hops chunk : List ℕ} {s s' : Chunked} → ReplayCalled t party hops s chunk s' → (areBytes (s .room) ≡ true) × (areBytes chunk ≡ true)
 replay-bytes (ReplayChunkCalled κs a r end good room-bytes bytes learnt) = (room-bytes, bytes)
 
 -- Chunks that were taken one after the other are replays of the rules, and so every promise of crates/replay_promises holds of
 -- them.
-pub called-replays : {t : Settings} {hops : List ℕ} {s last : Chunked} {chunks : List (List ℕ)} → Chunks (ReplayCalled t hops) s chunks last → Replays t hops s chunks last
+pub called-replays : {t : Settings} {party : ℕ} {hops : List ℕ} {s last : Chunked} {chunks : List (List ℕ)} → Chunks (ReplayCalled t party hops) s chunks last → Replays t party hops s chunks last
 called-replays = seat-streamed (λ s chunk s' called. replay-applied called)

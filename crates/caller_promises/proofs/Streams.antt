@@ -61,7 +61,7 @@ end-given (EndStreamCalled κs a r end learnt) = end-ensures κs a r end learnt
 
 -- ---- Chunks one after the other
 
--- Chunks that a seat took one after the other, none of which was given 19, 1 or 2: One is what it saw of a single chunk.
+-- Chunks that a seat took one after the other, none of which was given 19, 1, 2 or 15: One is what it saw of a single chunk.
 pub data Chunks (One : Chunked → (chunk : List ℕ) → Chunked → Type 0) : Chunked → (chunks : List (List ℕ)) → Chunked → Type 0 where
   NoneLeft : {s : Chunked} → Chunks One s [] s
   Next : {s s' last : Chunked} {chunk : List ℕ} {chunks : List (List ℕ)} → One s chunk s' → untaken (s' .number) ≡ false → Chunks One s' chunks last → Chunks One s (chunk ∷ chunks) last

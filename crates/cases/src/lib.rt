@@ -5,7 +5,7 @@ use libc::STDOUT_FILENO;
 use rules::Settings;
 
 // A case is a number in hex whose first digit says what is done. Most have a prefix, a length and a hop
-// after it; what stands there for the rest is said here.
+// after it; what stands there for the rest is said here. The hop's first digit has twice the party in it.
 
 // Damage: a byte or a word to write, and its place where the hop stands.
 pub const PUT_COUNTER: u32 = 8;
@@ -28,14 +28,15 @@ pub const LEND_COUNTERS: u32 = 14;
 // How many words are lent and, where the hop stands, how many bytes for them to C.
 pub const LEND_SLOTS: u32 = 15;
 
-// How much is lent: counters, values of D to C, words, and bytes for the words to C; and whether it is C
-// alone that calls.
+// How much is lent: counters, values of D to C, words, and bytes for the words to C; whether it is C
+// alone that calls; and the party that a case names.
 pub struct Lent {
     pub counters: usize,
     pub values: usize,
     pub words: usize,
     pub bytes: usize,
     pub from_c: bool,
+    pub party: u32,
 }
 
 // What a case does.
@@ -54,7 +55,12 @@ pub fn length_of(case: u64) -> u32 {
 
 // A case's hop, or what stands there.
 pub fn hop_of(case: u64) -> u32 {
-    (case % 0x10_0000) as u32
+    (case % 0x2_0000) as u32
+}
+
+// The party that a case names.
+pub fn party_of(case: u64) -> u32 {
+    (case / 0x2_0000 % 8) as u32
 }
 
 // Begins the line of a case.
@@ -77,6 +83,44 @@ pub fn number(n: u32) {
 pub fn digits(n: u64) {
     io::write_all(STDOUT_FILENO, b" ");
     io::print_hex(STDOUT_FILENO, n, 1);
+}
+
+// Before the first case no settings are set,
+pub fn none_set() -> Settings {
+    Settings {
+        k: 0,
+        d: [0; 32],
+        e: 0,
+        s: 0,
+        a: 0,
+        b: 0,
+        c: 0,
+    }
+}
+
+// and nothing is lent.
+pub fn none_lent() -> Lent {
+    Lent {
+        counters: 0,
+        values: 0,
+        words: 0,
+        bytes: 0,
+        from_c: false,
+        party: 0,
+    }
+}
+
+// Settings T, but for K and S.
+pub fn small(k: u32, s: u32) -> Settings {
+    Settings {
+        k,
+        d: [4; 32],
+        e: 1,
+        s,
+        a: 1,
+        b: 2,
+        c: 1,
+    }
 }
 
 // As many bytes as are lent, if there are so many.
@@ -140,6 +184,7 @@ pub fn set(t: Settings, case: u64) -> Settings {
 pub fn lend(lent: Lent, case: u64) -> Lent {
     let what = what_of(case);
     let mut next = lent;
+    next.party = party_of(case);
     if what == LEND_COUNTERS {
         next.counters = prefix_of(case) as usize;
         next.values = hop_of(case) as usize;
@@ -191,8 +236,9 @@ fn put_bytes(bytes: &mut [u8], place: usize, word: u32) {
 
 // The words as the bytes that C lends for them; what is left of these stays.
 pub fn copy_words(words: &[u32], bytes: &mut [u8]) {
+    let many = words.len();
     let mut i = 0;
-    while i < words.len() {
+    while i < many {
         put_bytes(bytes, i, words[i]);
         i += 1;
     }
@@ -200,9 +246,10 @@ pub fn copy_words(words: &[u32], bytes: &mut [u8]) {
 
 // A sum of bytes in which their order counts.
 fn sum_of_bytes(bytes: &[u8]) {
+    let many = bytes.len();
     let mut sum: u64 = 0;
     let mut i = 0;
-    while i < bytes.len() {
+    while i < many {
         sum = sum % 0x100_0000_0000 * 31 + bytes[i] as u64;
         i += 1;
     }
@@ -210,9 +257,10 @@ fn sum_of_bytes(bytes: &[u8]) {
 }
 
 fn sum_of_words(words: &[u32]) {
+    let many = words.len();
     let mut sum: u64 = 0;
     let mut i = 0;
-    while i < words.len() {
+    while i < many {
         sum = sum % 0x100_0000_0000 * 31 + words[i] as u64;
         i += 1;
     }

@@ -25,7 +25,7 @@ const COUNTER: u32 = 6;
 // A place among the words.
 const WORD: u32 = 7;
 
-const CASES: [u64; 489] = [
+const CASES: [u64; 553] = [
     // Settings T, and memory that was never cleared: every slot holds 0.0.0.7 with the mark 7, and
     // every counter is 7.
     0xa_02040102_00_00000,
@@ -33,7 +33,7 @@ const CASES: [u64; 489] = [
     0xc_00000002_00_00000,
     0xd_00000001_00_00000,
     0xe_00000200_00_00020,
-    0xf_00000101_00_00404,
+    0xf_00000102_00_00408,
     0x4_00000007_00_00000,
     0x4_00000008_00_00000,
     0x5_00000008_00_00000,
@@ -176,10 +176,10 @@ const CASES: [u64; 489] = [
     0x5_0a000003_00_00000,
     0x3_0a000003_20_00000,
     0x4_0a000003_00_00000,
-    // A mark of 65,537 means free, one of 65,536 is hop 65,535, and 0 means free beside any prefix.
+    // A mark of 131,073 means free, one of 65,536 is hop 65,535, and 0 means free beside any prefix.
     0x0_00000000_00_00000,
     0x9_0a000000_00_00038,
-    0x9_00010001_00_00039,
+    0x9_00020001_00_00039,
     0x8_00000001_00_00070,
     0x8_00000001_00_00071,
     0x4_0a000001_00_00000,
@@ -193,7 +193,7 @@ const CASES: [u64; 489] = [
     0x4_0a000001_00_00000,
     0x9_ffffffff_00_00039,
     0x4_0a000001_00_00000,
-    0x9_00010001_00_00100,
+    0x9_00020001_00_00100,
     0x4_0b000001_00_00000,
     0x9_00010000_00_00100,
     0x4_0b000001_00_00000,
@@ -240,13 +240,13 @@ const CASES: [u64; 489] = [
     0x8_00000000_00_00071,
     0x1_08000000_08_00002,
     0x4_08010203_00_00000,
-    // It stands twice in its bucket: the lower slot is written. With a mark of 65,537 that slot is free, and
-    // the other one is written.
+    // It stands twice in its bucket: the lower slot is written. With a mark of 131,073 that slot is free,
+    // and the other one is written.
     0x9_08000000_00_00038,
     0x9_00000004_00_00039,
     0x1_08000000_08_00010,
     0x7_00000039_00_00000,
-    0x9_00010001_00_00039,
+    0x9_00020001_00_00039,
     0x1_08000000_08_00011,
     0x7_0000003b_00_00000,
     // A prefix in another bucket than its own is not stored.
@@ -293,6 +293,79 @@ const CASES: [u64; 489] = [
     0x9_00000003_00_00039,
     0x4_0a000001_00_00000,
     0x2_0a000000_08_00000,
+    // Two parties: each has 10.0.0.0/8 once, with hops 7 and 9, in slots 0 and 1 of its bucket, and finds its own.
+    // The counters count both.
+    0x0_00000000_00_00000,
+    0x1_0a000000_08_00007,
+    0x1_0a000000_08_20009,
+    0x7_00000038_00_00000,
+    0x7_00000039_00_00000,
+    0x7_0000003a_00_00000,
+    0x7_0000003b_00_00000,
+    0x6_00000071_00_00000,
+    0x4_0a010203_00_00000,
+    0x4_0a010203_00_20000,
+    // The bucket is full for either, but for what it has stored: party 1's hop 65,535 is the mark 131,072, its hop
+    // 65,536 gets 5, and its hop 0 is the mark 65,537.
+    0x1_08000000_08_00005,
+    0x1_08000000_08_20005,
+    0x1_0a000000_08_2ffff,
+    0x7_0000003b_00_00000,
+    0x4_0a010203_00_20000,
+    0x1_0a000000_08_30000,
+    0x3_0a000000_08_20000,
+    0x7_0000003b_00_00000,
+    0x4_0a010203_00_20000,
+    // What party 1 withdraws is its own alone, and then it has none. Its 8.0.0.0/8 is not party 0's.
+    0x2_0a000000_08_20000,
+    0x6_00000071_00_00000,
+    0x2_0a000000_08_20000,
+    0x3_0a000000_08_20009,
+    0x4_0a010203_00_20000,
+    0x4_0a010203_00_00000,
+    0x1_08000000_08_20005,
+    0x4_08010203_00_00000,
+    // Each party's default has a word of its own.
+    0x1_00000000_00_00003,
+    0x1_00000000_00_20004,
+    0x7_00000100_00_00000,
+    0x7_00000101_00_00000,
+    0x4_0b000001_00_00000,
+    0x4_0b000001_00_20000,
+    0x2_00000000_00_20000,
+    0x4_0b000001_00_00000,
+    // There a mark of the other party counts for nothing, and an add overwrites it; so does 131,073.
+    0x9_00010005_00_00100,
+    0x4_0b000001_00_00000,
+    0x2_00000000_00_00000,
+    0x3_00000000_00_00008,
+    0x1_00000000_00_00008,
+    0x7_00000100_00_00000,
+    0x9_00010000_00_00101,
+    0x4_0b000001_00_20000,
+    0x2_00000000_00_20000,
+    0x3_00000000_00_20008,
+    0x1_00000000_00_20008,
+    0x7_00000101_00_00000,
+    0x9_00020000_00_00101,
+    0x4_0b000001_00_20000,
+    0x9_00020001_00_00101,
+    0x4_0b000001_00_20000,
+    // 15 for a party above 1: before 3 and after 2. The match vector names none.
+    0x1_0a000001_21_50000,
+    0x2_0a000001_21_40000,
+    0x3_0a000001_21_50000,
+    0x4_0a010203_00_40000,
+    0x5_0a010203_00_40000,
+    0xe_000001ff_00_00020,
+    0x1_0a000000_08_40007,
+    0x4_0a010203_00_40000,
+    0xe_00000200_00_00020,
+    // Clear empties both. Slots with marks of 65,537 are taken for party 0 too.
+    0x0_00000000_00_00000,
+    0x9_00010001_00_00039,
+    0x9_00010001_00_0003b,
+    0x1_0a000000_08_00007,
     // Number 9 is asked of the prefix: 240.0.0.0/4 has positions 15 and 13.
     0x0_00000000_00_00000,
     0x8_0000000f_00_0003d,
@@ -341,21 +414,21 @@ const CASES: [u64; 489] = [
     0x2_f0000000_04_00000,
     0x4_f0000001_00_00000,
     0xe_00000200_00_00020,
-    0xf_00000100_00_00400,
+    0xf_00000101_00_00404,
     0x0_00000000_00_00000,
     0x3_f0000000_04_00008,
     0x4_f0000001_00_00000,
     0x5_f0000001_00_00000,
-    0xf_00000102_00_00408,
+    0xf_00000103_00_0040c,
     0x0_00000000_00_00000,
     0x4_f0000001_00_00000,
     0x5_f0000001_00_00000,
-    0xf_00000101_00_00403,
+    0xf_00000102_00_00407,
     0x4_f0000001_00_00000,
-    0xf_00000101_00_00406,
+    0xf_00000102_00_0040a,
     0x4_f0000001_00_00000,
     0x5_f0000001_00_00000,
-    0xf_00000101_00_00404,
+    0xf_00000102_00_00408,
     0x4_f0000001_00_00000,
     // Settings U and W1.
     0xa_03060302_00_00000,
@@ -363,7 +436,7 @@ const CASES: [u64; 489] = [
     0xc_85ebca77_00_00000,
     0xd_c2b2ae3d_00_00000,
     0xe_00000800_00_00020,
-    0xf_00000401_00_01004,
+    0xf_00000402_00_01008,
     0x0_00000000_00_00000,
     0x1_0a000000_08_00007,
     0x1_0a010000_10_00009,
@@ -394,7 +467,7 @@ const CASES: [u64; 489] = [
     0xa_03070102_18_00000,
     0xa_03060102_20_00000,
     0xe_000002c0_00_00020,
-    0xf_00000101_00_00404,
+    0xf_00000102_00_00408,
     0x0_00000000_00_00000,
     0x1_80000000_01_00002,
     0x1_0a000000_08_00007,
@@ -499,7 +572,7 @@ const CASES: [u64; 489] = [
     0xc_7feb352d_00_00000,
     0xd_846ca68b_00_00000,
     0xe_00000400_00_00020,
-    0xf_00000101_00_00404,
+    0xf_00000102_00_00408,
     0x0_00000000_00_00000,
     0x1_c0a80000_10_00001,
     0x1_c0a80100_18_00002,
@@ -522,7 +595,7 @@ const CASES: [u64; 489] = [
     0xc_00000000_00_00000,
     0xd_c2b2ae3d_00_00000,
     0xe_00000200_00_00020,
-    0xf_000000c1_00_00304,
+    0xf_000000c2_00_00308,
     0x0_00000000_00_00000,
     0x1_c0000000_08_00001,
     0x1_8c000000_08_00002,
@@ -541,7 +614,7 @@ const CASES: [u64; 489] = [
     0xc_00000000_00_00000,
     0xd_00000000_00_00000,
     0xe_00000200_00_00020,
-    0xf_00000101_00_00404,
+    0xf_00000102_00_00408,
     0x0_00000000_00_00000,
     0x1_00000001_20_00001,
     0x1_00000002_20_00001,
@@ -553,12 +626,12 @@ const CASES: [u64; 489] = [
     0x4_00000002_00_00000,
     // P10, with S 2 and then with S 1.
     0xa_08040002_00_00000,
-    0xf_00000081_00_00204,
+    0xf_00000082_00_00208,
     0x0_00000000_00_00000,
     0x1_00000001_20_00001,
     0x1_00000002_20_00001,
     0xa_08040001_00_00000,
-    0xf_00000041_00_00104,
+    0xf_00000042_00_00108,
     0x0_00000000_00_00000,
     0x1_00000001_20_00001,
     0x1_00000002_20_00001,
@@ -574,8 +647,10 @@ fn wide(byte: u8) -> u32 {
     byte as u32
 }
 
-fn find(t: Settings, d: &[u8], counters: &[u8], slots: &[u32], bytes: &[u8], address: u32) {
-    let r = table::lookup(t, counters, slots, address);
+fn find(t: Settings, d: &[u8], counters: &[u8], slots: &[u32], bytes: &[u8], case: u64) {
+    let party = cases::party_of(case);
+    let address = cases::prefix_of(case);
+    let r = table::lookup(t, counters, slots, party, address);
     cases::number(r.refusal);
     cases::number(flag(r.found));
     cases::number(r.hop);
@@ -591,6 +666,7 @@ fn find(t: Settings, d: &[u8], counters: &[u8], slots: &[u32], bytes: &[u8], add
         t.c,
         counters,
         bytes,
+        party,
         address,
     ));
 }
@@ -615,12 +691,11 @@ fn vector(t: Settings, d: &[u8], counters: &[u8], slots: &[u32], bytes: &[u8], a
 
 // Asks the table, by its call and as C does.
 fn ask(t: Settings, d: &[u8], counters: &[u8], slots: &[u32], bytes: &mut [u8], case: u64) {
-    let address = cases::prefix_of(case);
-    cases::copy_words(slots, bytes);
     if cases::what_of(case) == FIND {
-        find(t, d, counters, slots, bytes, address);
+        cases::copy_words(slots, bytes);
+        find(t, d, counters, slots, bytes, case);
     } else {
-        vector(t, d, counters, slots, bytes, address);
+        vector(t, d, counters, slots, bytes, cases::prefix_of(case));
     }
 }
 
@@ -636,63 +711,58 @@ fn read(counters: &[u8], slots: &[u32], case: u64) {
     }
 }
 
-fn clear(t: Settings, d: &[u8], counters: &mut [u8], slots: &mut [u32]) -> u64 {
-    gateway::gateway_clear(t.k, d, t.e, t.s, t.a, t.b, t.c, counters, slots)
-}
-
-fn add(t: Settings, d: &[u8], counters: &mut [u8], slots: &mut [u32], case: u64) -> u64 {
-    let p = cases::prefix_of(case);
-    let length = cases::length_of(case);
-    let hop = cases::hop_of(case);
-    gateway::gateway_add(
-        t.k,
-        d,
-        t.e,
-        t.s,
-        t.a,
-        t.b,
-        t.c,
-        counters,
-        slots,
-        p,
-        length,
-        hop,
-    )
-}
-
-fn withdraw(t: Settings, d: &[u8], counters: &mut [u8], slots: &mut [u32], case: u64) -> u64 {
-    let p = cases::prefix_of(case);
-    let length = cases::length_of(case);
-    gateway::gateway_withdraw(t.k, d, t.e, t.s, t.a, t.b, t.c, counters, slots, p, length)
-}
-
-fn change(t: Settings, d: &[u8], counters: &mut [u8], slots: &mut [u32], case: u64) -> u64 {
-    let p = cases::prefix_of(case);
-    let length = cases::length_of(case);
-    let hop = cases::hop_of(case);
-    gateway::gateway_change(
-        t.k,
-        d,
-        t.e,
-        t.s,
-        t.a,
-        t.b,
-        t.c,
-        counters,
-        slots,
-        p,
-        length,
-        hop,
-    )
-}
-
 // Makes a call that writes, and gives back what C gets from it.
 fn act(t: Settings, d: &[u8], counters: &mut [u8], slots: &mut [u32], case: u64) -> u64 {
+    let party = cases::party_of(case);
+    let p = cases::prefix_of(case);
+    let length = cases::length_of(case);
+    let hop = cases::hop_of(case);
     match cases::what_of(case) {
-        CLEAR => clear(t, d, counters, slots),
-        ADD => add(t, d, counters, slots, case),
-        WITHDRAW => withdraw(t, d, counters, slots, case),
-        _ => change(t, d, counters, slots, case),
+        CLEAR => gateway::gateway_clear(t.k, d, t.e, t.s, t.a, t.b, t.c, counters, slots),
+        ADD => gateway::gateway_add(
+            t.k,
+            d,
+            t.e,
+            t.s,
+            t.a,
+            t.b,
+            t.c,
+            counters,
+            slots,
+            party,
+            p,
+            length,
+            hop,
+        ),
+        WITHDRAW => gateway::gateway_withdraw(
+            t.k,
+            d,
+            t.e,
+            t.s,
+            t.a,
+            t.b,
+            t.c,
+            counters,
+            slots,
+            party,
+            p,
+            length,
+        ),
+        _ => gateway::gateway_change(
+            t.k,
+            d,
+            t.e,
+            t.s,
+            t.a,
+            t.b,
+            t.c,
+            counters,
+            slots,
+            party,
+            p,
+            length,
+            hop,
+        ),
     }
 }
 
@@ -702,32 +772,42 @@ fn update(t: Settings, d: &[u8], counters: &mut [u8], slots: &mut [u32], case: u
     cases::sums(counters, slots);
 }
 
-// Reads or damages a place of the lent memory.
-fn reach(counters: &mut [u8], slots: &mut [u32], case: u64) {
-    read(counters, slots, case);
-    cases::damage(counters, slots, case);
-}
-
-// A case over the memory that is lent for it.
+// A call, from C with so many values of D.
 fn call(
     t: Settings,
-    d: &[u8],
+    values: usize,
     counters: &mut [u8],
     slots: &mut [u32],
     bytes: &mut [u8],
     case: u64,
 ) {
-    let what = cases::what_of(case);
-    if what < FIND {
-        update(t, d, counters, slots, case);
-    } else if what < COUNTER {
-        ask(t, d, counters, slots, bytes, case);
+    let list = cases::list_of(t);
+    let many = cases::bytes_lent(values, &list);
+    if cases::what_of(case) < FIND {
+        update(t, &list[..many], counters, slots, case);
     } else {
-        reach(counters, slots, case);
+        ask(t, &list[..many], counters, slots, bytes, case);
     }
 }
 
-// A case over as much of the memory and the list as is lent, and what it writes.
+// A case over the memory that is lent for it: a call, or a place of the memory read or damaged.
+fn make(
+    t: Settings,
+    values: usize,
+    counters: &mut [u8],
+    slots: &mut [u32],
+    bytes: &mut [u8],
+    case: u64,
+) {
+    if cases::what_of(case) < COUNTER {
+        call(t, values, counters, slots, bytes, case);
+    } else {
+        read(counters, slots, case);
+        cases::damage(counters, slots, case);
+    }
+}
+
+// A case over as much of the memory as is lent, and what it writes.
 fn line(
     t: Settings,
     lent: Lent,
@@ -736,15 +816,13 @@ fn line(
     bytes: &mut [u8],
     case: u64,
 ) {
-    let list = cases::list_of(t);
-    let values = cases::bytes_lent(lent.values, &list);
     let many = cases::bytes_lent(lent.counters, counters);
     let words = cases::words_lent(lent.words, slots);
     let count = cases::bytes_lent(lent.bytes, bytes);
     cases::begin(case);
-    call(
+    make(
         t,
-        &list[..values],
+        lent.values,
         &mut counters[..many],
         &mut slots[..words],
         &mut bytes[..count],
@@ -755,22 +833,8 @@ fn line(
 
 // The cases of a list, one after the other over the same memory.
 fn run(cases: &[u64], counters: &mut [u8], slots: &mut [u32], bytes: &mut [u8]) {
-    let mut t = Settings {
-        k: 0,
-        d: [0; 32],
-        e: 0,
-        s: 0,
-        a: 0,
-        b: 0,
-        c: 0,
-    };
-    let mut lent = Lent {
-        counters: 0,
-        values: 0,
-        words: 0,
-        bytes: 0,
-        from_c: false,
-    };
+    let mut t = cases::none_set();
+    let mut lent = cases::none_lent();
     let mut i = 0;
     while i < cases.len() {
         let case = cases[i];
@@ -784,7 +848,7 @@ fn run(cases: &[u64], counters: &mut [u8], slots: &mut [u32], bytes: &mut [u8]) 
 fn main() {
     // Before the first clear the memory holds something else than zeros.
     let mut counters = [7u8; 65536];
-    let mut slots = [7u32; 1025];
+    let mut slots = [7u32; 1026];
     let mut bytes = [7u8; 4104];
     run(&CASES, &mut counters, &mut slots, &mut bytes);
 }

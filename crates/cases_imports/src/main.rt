@@ -1,12 +1,11 @@
 // Dumps imported in chunks, by the crates' own calls and then as C calls them, over a table of settings T. A
 // line has a case and, if that is a chunk or an end, what the call gives back and what is lent then holds. The
 // file stdout comes from the rules alone: tests/cases works it out.
-use rules::Settings;
 
 // What a case does. Zeros for the stream's words and the counts, and a table that is cleared.
 const BEGIN: u32 = 0;
 
-// The bytes of the dump from a place on and, where the hop stands, how many.
+// The bytes of the dump from a place on and, where the hop stands, how many, for a party.
 const CHUNK: u32 = 2;
 
 const END: u32 = 3;
@@ -139,7 +138,7 @@ const RECORDS: [u8; 1966] = *b"\x65\x00\x00\x00\x00\x0d\x00\x01\x00\x00\x00\x05\
     \x65\x00\x00\x00\x00\x0d\x00\x02\x00\x01\x00\x00\x00\x00\x00\x00\x08\x0a\x00\x01\x00\x01\x00\x00\x00\x09\xff\
     \xf1\x40\x03\x04\x0a\x09\x09\x01\x50\x02\xff\xe6";
 
-const CASES: [u64; 458] = [
+const CASES: [u64; 473] = [
     // A list in which 10.9.9.1 has places 1 and 3, and 10.9.9.4 place 2.
     0x6_0a090909_00_00000,
     0x6_0a090901_00_00001,
@@ -325,21 +324,35 @@ const CASES: [u64; 458] = [
     0x2_0000048b_00_00120,
     // 19 comes before 1, 1 before 2, and the number that ended it before all of them.
     0x0_00000000_00_00000,
-    0x9_00000200_00_00101,
+    0x9_00000200_00_00102,
     0x2_00000000_00_10001,
     0x2_00000000_00_000b5,
-    0x9_000001ff_09_00100,
+    0x9_000001ff_09_00101,
     0x2_00000000_00_000b5,
-    0x9_000001ff_02_00101,
+    0x9_000001ff_02_00102,
     0x2_00000000_00_10001,
     0x2_00000000_00_00000,
-    0x9_00000200_02_00100,
+    0x9_00000200_02_00101,
     0x2_00000000_00_000b5,
     0x4_0000000d_00_00000,
     0x2_00000000_00_10001,
     0x3_00000000_00_00000,
-    0x9_00000200_02_00101,
+    0x9_00000200_02_00102,
     0x2_00000000_00_00001,
+    // The first four records for party 0, and then for party 1.
+    0x0_00000000_00_00000,
+    0x2_00000000_00_000b5,
+    0x2_00000000_00_200b5,
+    // 15 for party 2: after 19, 1 and 2, and after the number that ended the import.
+    0x2_00000000_00_50001,
+    0x9_00000200_09_00101,
+    0x2_00000000_00_40001,
+    0x9_00000200_02_00101,
+    0x2_00000000_00_40001,
+    0x9_00000200_02_00102,
+    0x2_00000000_00_400b5,
+    0x3_00000000_00_00000,
+    0x2_00000000_00_400b5,
     // Words of any contents: ended by any number; a header of 12 bytes and up; bodies that have no room, or
     // whose header is of another kind.
     0x0_00000000_00_00000,
@@ -610,32 +623,38 @@ const CASES: [u64; 458] = [
     0x0_00000000_00_00000,
     0x2_0000048b_00_00028,
     0x2_00000000_00_10001,
-    0x9_00000200_09_00101,
-    0x2_00000000_00_00001,
-    0x9_00000200_02_00100,
+    0x9_00000200_09_00102,
     0x2_00000000_00_00001,
     0x9_00000200_02_00101,
+    0x2_00000000_00_00001,
+    0x9_00000200_02_00102,
     0x3_00000000_00_00000,
     0x3_00000000_00_00000,
     0x2_00000000_00_00001,
+    // Party 1, and 15 for party 2.
+    0x0_00000000_00_00000,
+    0x2_00000000_00_200b5,
+    0x2_00000000_00_400b5,
     // Odd prefixes.
     0x0_00000000_00_00000,
     0x2_0000068c_00_000fb,
     0x3_00000000_00_00000,
 ];
 
-// K, how much is lent to a chunk, and whether it is C that calls.
+// K, how much is lent to a chunk, whether it is C that calls, and for which party.
 struct Lent {
     k: u32,
     counters: usize,
     slots: usize,
     from_c: bool,
+    party: u32,
 }
 
 // What is lent after a case.
 fn lend(lent: Lent, case: u64) -> Lent {
     let what = cases::what_of(case);
     let mut next = lent;
+    next.party = cases::party_of(case);
     if what == LEND {
         next.k = cases::length_of(case);
         next.counters = cases::prefix_of(case) as usize;
@@ -645,19 +664,6 @@ fn lend(lent: Lent, case: u64) -> Lent {
         next.from_c = true;
     }
     next
-}
-
-// Settings T, but for K.
-fn settings(k: u32) -> Settings {
-    Settings {
-        k,
-        d: [4; 32],
-        e: 1,
-        s: 2,
-        a: 1,
-        b: 2,
-        c: 1,
-    }
 }
 
 fn take(
@@ -682,6 +688,7 @@ fn take(
             1,
             counters,
             slots,
+            lent.party,
             hops,
             counts,
             words,
@@ -689,11 +696,12 @@ fn take(
             chunk,
         ));
     } else {
-        let t = settings(lent.k);
+        let t = cases::small(lent.k, 2);
         let number = import_calls::import_chunk(
             t,
             counters,
             slots,
+            lent.party,
             hops,
             counts,
             words,
@@ -743,7 +751,7 @@ fn end(from_c: bool, words: &mut [u32; 3]) {
 }
 
 fn begin(counters: &mut [u8], slots: &mut [u32], counts: &mut [u32; 3], words: &mut [u32; 3]) {
-    cases::digits(table::clear(settings(2), counters, slots) as u64);
+    cases::digits(table::clear(cases::small(2, 2), counters, slots) as u64);
     *counts = [0, 0, 0];
     *words = [0, 0, 0];
 }
@@ -771,7 +779,7 @@ fn prepare(
 fn line(
     lent: Lent,
     counters: &mut [u8; 512],
-    slots: &mut [u32; 257],
+    slots: &mut [u32; 258],
     hops: &mut [u32; 8],
     counts: &mut [u32; 3],
     words: &mut [u32; 3],
@@ -793,7 +801,7 @@ fn line(
 fn run(
     cases: &[u64],
     counters: &mut [u8; 512],
-    slots: &mut [u32; 257],
+    slots: &mut [u32; 258],
     hops: &mut [u32; 8],
     counts: &mut [u32; 3],
     words: &mut [u32; 3],
@@ -803,8 +811,9 @@ fn run(
     let mut lent = Lent {
         k: 2,
         counters: 512,
-        slots: 257,
+        slots: 258,
         from_c: false,
+        party: 0,
     };
     let mut i = 0;
     while i < cases.len() {
@@ -817,7 +826,7 @@ fn run(
 
 fn main() {
     let mut counters = [7u8; 512];
-    let mut slots = [7u32; 257];
+    let mut slots = [7u32; 258];
     let mut hops = [0u32; 8];
     let mut counts = [0u32; 3];
     let mut words = [0u32; 3];

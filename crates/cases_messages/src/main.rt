@@ -14,7 +14,7 @@ const ADD: u32 = 1;
 const BYTES: u32 = 2;
 
 // A place of the message and a byte that it has for this time, how many bytes are lent, and how many next
-// hops.
+// hops, with the party where a hop has it.
 const READ: u32 = 3;
 
 // The withdrawal of a prefix, into so many bytes; what they then hold is read.
@@ -29,14 +29,14 @@ const LISTS: u32 = 6;
 // From here on the calls are C's.
 const FROM_C: u32 = 7;
 
-const CASES: [u64; 394] = [
+const CASES: [u64; 406] = [
     // K 3, D 4, E 1, S 2 and unlike multipliers, over memory that was never cleared.
     0xa_03040102_00_00000,
     0xb_9e3779b1_00_00000,
     0xc_85ebca77_00_00000,
     0xd_c2b2ae3d_00_00000,
     0xe_00000200_00_00020,
-    0xf_00000101_00_00000,
+    0xf_00000102_00_00000,
     // The marker, and a list in which 10.9.9.1 has places 1 and 2, and 10.7.9.1 place 3.
     0x2_ffffffff_00_00000,
     0x2_ffffffff_00_00004,
@@ -61,6 +61,18 @@ const CASES: [u64; 394] = [
     0x3_00_ff_0002d_000003,
     0x1_0a010000_10_00009,
     0x3_00_ff_0002d_000003,
+    // For party 1, which adds its own beside party 0's: it cannot withdraw 10.1.0.0/16, which is party 0's, and then
+    // one of its own. After it party 0 can withdraw.
+    0x1_0a010000_10_00009,
+    0x3_00_ff_0002d_020003,
+    0x1_0a010000_10_20009,
+    0x3_00_ff_0002d_020003,
+    0x3_00_ff_0002d_000003,
+    // 15 for party 2: before 12, and after 2.
+    0x3_00_fe_0002d_040003,
+    0xe_000001ff_00_00020,
+    0x3_00_fe_0002d_040003,
+    0xe_00000200_00_00020,
     // The first announced prefix is odd, 127.0.2.0/24, 224.0.2.0/24 or 239.0.2.0/24: it is refused, and the default after
     // it is not. Those before and after them pass, and 127.1.0.0/16 is withdrawn as any other. Then the message as it was.
     0x0_00000000_00_00000,
@@ -156,11 +168,11 @@ const CASES: [u64; 394] = [
     0xe_00000201_00_00020,
     0x3_00_ff_0002d_000003,
     0xe_00000200_00_00020,
-    0xf_00000100_00_00000,
-    0x3_00_ff_0002d_000003,
-    0xf_00000102_00_00000,
-    0x3_12_04_0002d_000000,
     0xf_00000101_00_00000,
+    0x3_00_ff_0002d_000003,
+    0xf_00000103_00_00000,
+    0x3_12_04_0002d_000000,
+    0xf_00000102_00_00000,
     0x3_12_04_0002d_000000,
     0x3_2c_21_0002d_000000,
     0xa_03040002_00_00000,
@@ -368,7 +380,7 @@ const CASES: [u64; 394] = [
     0xc_00000000_00_00000,
     0xd_00000000_00_00000,
     0xe_00000200_00_00020,
-    0xf_00000081_00_00000,
+    0xf_00000082_00_00000,
     0x0_00000000_00_00000,
     0x2_00290200_00_00010,
     0x2_0901200a_00_0001c,
@@ -382,12 +394,13 @@ const CASES: [u64; 394] = [
     0xc_9e3779b1_00_00000,
     0xd_846ca68b_00_00000,
     0xe_00000400_00_00020,
-    0xf_00000101_00_00000,
+    0xf_00000102_00_00000,
     0x0_00000000_00_00000,
     0x3_00_ff_00029_000003,
     0x3_1d_02_00029_000003,
-    // Withdrawals written and read: 10.0.0.0/8, stored, and again; then all sizes.
+    // Withdrawals written and read: 10.0.0.0/8, for party 1, which has none, for party 0, and again; then all sizes.
     0x1_0a000000_08_00007,
+    0x4_0a000000_08_20019,
     0x4_0a000000_08_00019,
     0x4_0a000000_08_00019,
     0x1_00000000_00_00007,
@@ -446,6 +459,9 @@ const CASES: [u64; 394] = [
     0x2_080c18c0_00_00028,
     0x2_00020000_00_0002c,
     0x3_00_ff_0002e_000003,
+    // For party 1 the slots are taken; 15 for party 2, before 12.
+    0x3_00_ff_0002e_020003,
+    0x3_12_01_0002e_040003,
     // The first of them is 127.0.0.0/8, and the fourth 224.0.0.0/8.
     0x3_1f_7f_0002e_000003,
     0x3_25_e0_0002e_000003,
@@ -497,8 +513,15 @@ fn byte_at(bytes: &[u8], place: usize) -> u8 {
 }
 
 // Reads a message by the crates' own call.
-fn apply(t: Settings, counters: &mut [u8], slots: &mut [u32], message: &[u8], hops: &[u32]) {
-    let report = message_calls::apply_message(t, counters, slots, message, hops);
+fn apply(
+    t: Settings,
+    counters: &mut [u8],
+    slots: &mut [u32],
+    party: u32,
+    message: &[u8],
+    hops: &[u32],
+) {
+    let report = message_calls::apply_message(t, counters, slots, party, message, hops);
     cases::digits(report.refusal as u64);
     cases::digits(report.accepted as u64);
     cases::digits(report.refused as u64);
@@ -510,6 +533,7 @@ fn apply_from_c(
     values: usize,
     counters: &mut [u8],
     slots: &mut [u32],
+    party: u32,
     message: &[u8],
     hops: &[u32],
 ) {
@@ -526,6 +550,7 @@ fn apply_from_c(
         t.c,
         counters,
         slots,
+        party,
         message,
         hops,
     ));
@@ -540,9 +565,9 @@ fn update(
     hops: &[u32],
 ) {
     if lent.from_c {
-        apply_from_c(t, lent.values, counters, slots, message, hops);
+        apply_from_c(t, lent.values, counters, slots, lent.party, message, hops);
     } else {
-        apply(t, counters, slots, message, hops);
+        apply(t, counters, slots, lent.party, message, hops);
     }
 }
 
@@ -640,7 +665,7 @@ fn read_front(
     case: u64,
 ) {
     let end = cases::bytes_lent((case / 0x100_0000 % 0x10_0000) as usize, message);
-    let count = cases::words_lent((case % 0x100_0000) as usize, hops);
+    let count = cases::words_lent(cases::hop_of(case) as usize, hops);
     read(t, lent, counters, slots, &message[..end], &hops[..count]);
 }
 
@@ -679,21 +704,18 @@ fn prepare(message: &mut [u8], hops: &mut [u32], case: u64) {
     }
 }
 
-fn clear(t: Settings, counters: &mut [u8], slots: &mut [u32]) {
-    cases::digits(table::clear(t, counters, slots) as u64);
-}
-
 fn add(t: Settings, counters: &mut [u8], slots: &mut [u32], case: u64) {
     let p = cases::prefix_of(case);
     let length = cases::length_of(case);
     let hop = cases::hop_of(case);
-    cases::digits(table::add(t, counters, slots, p, length, hop) as u64);
+    let party = cases::party_of(case);
+    cases::digits(table::add(t, counters, slots, party, p, length, hop) as u64);
 }
 
 // A case of the table alone.
 fn act(t: Settings, counters: &mut [u8], slots: &mut [u32], case: u64) {
     match cases::what_of(case) {
-        CLEAR => clear(t, counters, slots),
+        CLEAR => cases::digits(table::clear(t, counters, slots) as u64),
         ADD => add(t, counters, slots, case),
         _ => cases::damage(counters, slots, case),
     }
@@ -753,22 +775,8 @@ fn run(
     message: &mut [u8],
     hops: &mut [u32],
 ) {
-    let mut t = Settings {
-        k: 0,
-        d: [0; 32],
-        e: 0,
-        s: 0,
-        a: 0,
-        b: 0,
-        c: 0,
-    };
-    let mut lent = Lent {
-        counters: 0,
-        values: 0,
-        words: 0,
-        bytes: 0,
-        from_c: false,
-    };
+    let mut t = cases::none_set();
+    let mut lent = cases::none_lent();
     let mut i = 0;
     while i < cases.len() {
         let case = cases[i];
@@ -782,7 +790,7 @@ fn run(
 fn main() {
     // Before the first clear the memory holds something else than zeros.
     let mut counters = [7u8; 2048];
-    let mut slots = [7u32; 1025];
+    let mut slots = [7u32; 1026];
     let mut message = [0u8; 4098];
     let mut hops = [0u32; 65538];
     run(&CASES, &mut counters, &mut slots, &mut message, &mut hops);

@@ -2,14 +2,14 @@
 // T. A line has a case, what it gives back if that is a call, and what is lent then holds: after a chunk sums of
 // the table and of the room's front, and in every line the tally and the stream's words. The file stdout comes from
 // the rules alone: tests/cases works it out.
-use rules::Settings;
 
 // What a case does, beside the damage of crates/cases, whose words are here those of the tally. All begins anew:
 // a cleared table, zeros for the stream's words, the tally FIGURES, and the day but for a byte, whose place stands
 // where the hop does. Byte 0x65 at place 0 is the day's own.
 const BEGIN: u32 = 0;
 
-// The bytes of the day from a place on, K and S where the length stands and, where the hop does, how many.
+// The bytes of the day from a place on, K and S where the length stands and, where the hop does, how many, for a
+// party.
 const CHUNK: u32 = 1;
 
 const END: u32 = 2;
@@ -74,7 +74,7 @@ const RECORDS: [u8; 320] = *b"\
     \x65\x00\x00\x00\x00\x10\x00\x05\x00\x00\x00\x08\xfb\xf4\x00\x01\x00\x00\x00\x02\
     \x65\x00\x00\x00\x00\x10\x00\x04\x00\x01\x00\x00";
 
-const CASES: [u64; 230] = [
+const CASES: [u64; 246] = [
     // The first six records in one chunk; the end twice, and a chunk after it. The six once more, on the table
     // that they left.
     0x0_00000065_00_00000,
@@ -317,10 +317,29 @@ const CASES: [u64; 230] = [
     0x2_00000000_00_00000,
     0x9_ee6b2801_00_00000,
     0x1_00000134_91_10001,
-    // As C calls them: the first six records, cut; 12; 14; 19, 1 and 2; and an end inside a record.
+    // The six records for party 1 alone; and upon those of party 0, where the bucket is full.
+    0x0_00000065_00_00000,
+    0x1_00000000_22_20134,
+    0x0_00000065_00_00000,
+    0x1_00000000_22_00134,
+    0x1_00000000_22_20134,
+    // 15 for party 2, after 19, 1 and 2: party 1's replay is as it was, and goes on. Once it has ended it gives its
+    // number.
+    0x0_00000065_00_00000,
+    0x1_00000000_22_20014,
+    0x1_00000134_22_50001,
+    0x1_00000014_91_40074,
+    0x1_00000014_23_40074,
+    0x1_00000014_22_40074,
+    0x1_00000014_22_20120,
+    0x2_00000000_00_00000,
+    0x1_00000000_22_40001,
+    // As C calls them: the first six records, cut; for party 1, which is refused all of them but the odd one by 7 and 8;
+    // 12; 14; 19, 1, 2 and 15; and an end inside a record.
     0x0_00000065_00_00000,
     0x3_00000000_22_00064,
     0x3_00000064_22_000d0,
+    0x3_00000000_22_20134,
     0x4_00000000_00_00000,
     0x3_00000000_22_00001,
     0x0_00000000_00_0005e,
@@ -334,22 +353,10 @@ const CASES: [u64; 230] = [
     0x3_00000134_22_10001,
     0x3_00000000_91_00001,
     0x3_00000000_23_00001,
+    0x3_00000000_22_40001,
     0x4_00000000_00_00000,
     0x3_00000000_22_00001,
 ];
-
-// Settings T, but for K and S, which are the digits of a number in hex.
-fn settings(digits: u32) -> Settings {
-    Settings {
-        k: digits / 0x10,
-        d: [4; 32],
-        e: 1,
-        s: digits % 0x10,
-        a: 1,
-        b: 2,
-        c: 1,
-    }
-}
 
 // All begins anew, but for a byte of the day.
 fn begin(
@@ -360,7 +367,7 @@ fn begin(
     day: &mut [u8],
     case: u64,
 ) {
-    cases::digits(table::clear(settings(0x22), counters, slots) as u64);
+    cases::digits(table::clear(cases::small(2, 2), counters, slots) as u64);
     *tally = FIGURES;
     *words = [0, 0, 0];
     cases::fill_but(day, &RECORDS, case);
@@ -369,7 +376,7 @@ fn begin(
 // A chunk, by the crates' own call or as C calls it.
 fn chunk(
     counters: &mut [u8; 512],
-    slots: &mut [u32; 257],
+    slots: &mut [u32; 258],
     tally: &mut [u32; 23],
     words: &mut [u32; 3],
     room: &mut [u8; 65548],
@@ -380,12 +387,15 @@ fn chunk(
     let rest = &day[from..];
     let many = cases::bytes_lent(cases::hop_of(case) as usize, rest);
     let lent = &rest[..many];
-    let t = settings(cases::length_of(case));
+    let shape = cases::length_of(case);
+    let t = cases::small(shape / 0x10, shape % 0x10);
+    let party = cases::party_of(case);
     if cases::what_of(case) == CHUNK {
         let number = replay_calls::replay_chunk(
             t,
             counters,
             slots,
+            party,
             &HOPS,
             tally,
             words,
@@ -405,6 +415,7 @@ fn chunk(
             t.c,
             counters,
             slots,
+            party,
             &HOPS,
             tally,
             words,
@@ -426,7 +437,7 @@ fn end(words: &mut [u32; 3], case: u64) {
 // A case, and what it writes.
 fn line(
     counters: &mut [u8; 512],
-    slots: &mut [u32; 257],
+    slots: &mut [u32; 258],
     tally: &mut [u32; 23],
     words: &mut [u32; 3],
     room: &mut [u8; 65548],
@@ -445,7 +456,7 @@ fn line(
 
 fn main() {
     let mut counters = [7u8; 512];
-    let mut slots = [7u32; 257];
+    let mut slots = [7u32; 258];
     let mut tally = [0u32; 23];
     let mut words = [0u32; 3];
     let mut room = [0xaau8; 65548];

@@ -53,7 +53,7 @@ pub lookup-determined : (κs : Lfts 3) (a : _) (r q : _) (s e : _) → lookup.Po
 lookup-determined κs a r q s e one other = one ∙ sym other
 
 pub lookup-list-determined : (κs : Lfts 5) (a : _) (r q : _) (s e : _) → lookup-list.Post κs a r s → lookup-list.Post κs a q e
-    → (r ≡ q) × (now (past s .1 .1 .1 .0) ≡ now (past e .1 .1 .1 .0))
+    → (r ≡ q) × (now (past s .1 .1 .1 .1 .0) ≡ now (past e .1 .1 .1 .1 .0))
 lookup-list-determined κs a r q s e one other = (one .number ∙ sym (other .number), one .results ∙ sym (other .results))
 
 pub update-determined : (κs : Lfts 5) (a : _) (r q : _) (s e : _) → update.Post κs a r s → update.Post κs a q e
@@ -82,12 +82,12 @@ chunks-alike u one other =
 
 pub import-determined : (κs : Lfts 8) (a : _) (r q : _) (s e : _) → import.Post κs a r s → import.Post κs a q e
     → (r ≡ q) × (now (past s .0) ≡ now (past e .0)) × (now (past s .1 .0) ≡ now (past e .1 .0))
-    × (now (past s .1 .1 .1 .0) ≡ now (past e .1 .1 .1 .0)) × (now (past s .1 .1 .1 .1 .0) ≡ now (past e .1 .1 .1 .1 .0)) × (now (past s .1 .1 .1 .1 .1 .0) ≡ now (past e .1 .1 .1 .1 .1 .0))
+    × (now (past s .1 .1 .1 .1 .0) ≡ now (past e .1 .1 .1 .1 .0)) × (now (past s .1 .1 .1 .1 .1 .0) ≡ now (past e .1 .1 .1 .1 .1 .0)) × (now (past s .1 .1 .1 .1 .1 .1 .0) ≡ now (past e .1 .1 .1 .1 .1 .1 .0))
 import-determined κs a r q s e one other = chunks-alike _ one other
 
 pub replay-determined : (κs : Lfts 8) (a : _) (r q : _) (s e : _) → replay.Post κs a r s → replay.Post κs a q e
     → (r ≡ q) × (now (past s .0) ≡ now (past e .0)) × (now (past s .1 .0) ≡ now (past e .1 .0))
-    × (now (past s .1 .1 .1 .0) ≡ now (past e .1 .1 .1 .0)) × (now (past s .1 .1 .1 .1 .0) ≡ now (past e .1 .1 .1 .1 .0)) × (now (past s .1 .1 .1 .1 .1 .0) ≡ now (past e .1 .1 .1 .1 .1 .0))
+    × (now (past s .1 .1 .1 .1 .0) ≡ now (past e .1 .1 .1 .1 .0)) × (now (past s .1 .1 .1 .1 .1 .0) ≡ now (past e .1 .1 .1 .1 .1 .0)) × (now (past s .1 .1 .1 .1 .1 .1 .0) ≡ now (past e .1 .1 .1 .1 .1 .1 .0))
 replay-determined κs a r q s e one other = chunks-alike _ one other
 
 pub end-stream-determined : (κs : Lfts 1) (a : _) (r q : _) (s e : _) → end-stream.Post κs a r s → end-stream.Post κs a q e → (r ≡ q) × (now (s .0) ≡ now (e .0))

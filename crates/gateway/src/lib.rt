@@ -19,7 +19,7 @@ use c_numbers::refusal_part;
 use import_calls::import_chunk;
 use replay_calls::replay_chunk;
 
-// Empties the table: zero in every byte and word.
+// Empties the table of both parties' routes: zero in every byte and word.
 #[no_mangle]
 pub extern "C" fn gateway_clear(
     k: u32,
@@ -37,7 +37,7 @@ pub extern "C" fn gateway_clear(
     refusal_part(table::clear(settings_of(k, d, e, s, a, b, c), counters, slots))
 }
 
-// Stores a route. One that is stored keeps its slot and gets the new hop.
+// Stores a route for a party, 0 or 1. One that it has stored keeps its slot and gets the new hop.
 #[no_mangle]
 pub extern "C" fn gateway_add(
     k: u32,
@@ -49,17 +49,18 @@ pub extern "C" fn gateway_add(
     c: u32,
     counters: &mut [u8],
     slots: &mut [u32],
+    party: u32,
     prefix: u32,
     length: u32,
     hop: u32,
 ) -> u64
-    ensures { λ r. ⌜ Crossed (add (settings-of k (now (d .entry)) e s a b c) (lent (now (counters .entry)) (now (slots .entry))) prefix length hop) r (now (counters .exit)) (now (slots .exit)) ⌝ }
+    ensures { λ r. ⌜ Crossed (add (settings-of k (now (d .entry)) e s a b c) (lent (now (counters .entry)) (now (slots .entry))) party prefix length hop) r (now (counters .exit)) (now (slots .exit)) ⌝ }
 {
     let settings = settings_of(k, d, e, s, a, b, c);
-    refusal_part(table::add(settings, counters, slots, prefix, length, hop))
+    refusal_part(table::add(settings, counters, slots, party, prefix, length, hop))
 }
 
-// Takes a stored route out.
+// Takes a stored route of the party's out.
 #[no_mangle]
 pub extern "C" fn gateway_withdraw(
     k: u32,
@@ -71,16 +72,17 @@ pub extern "C" fn gateway_withdraw(
     c: u32,
     counters: &mut [u8],
     slots: &mut [u32],
+    party: u32,
     prefix: u32,
     length: u32,
 ) -> u64
-    ensures { λ r. ⌜ Crossed (withdraw (settings-of k (now (d .entry)) e s a b c) (lent (now (counters .entry)) (now (slots .entry))) prefix length) r (now (counters .exit)) (now (slots .exit)) ⌝ }
+    ensures { λ r. ⌜ Crossed (withdraw (settings-of k (now (d .entry)) e s a b c) (lent (now (counters .entry)) (now (slots .entry))) party prefix length) r (now (counters .exit)) (now (slots .exit)) ⌝ }
 {
     let settings = settings_of(k, d, e, s, a, b, c);
-    refusal_part(table::withdraw(settings, counters, slots, prefix, length))
+    refusal_part(table::withdraw(settings, counters, slots, party, prefix, length))
 }
 
-// Gives a stored route a new next hop.
+// Gives a stored route of the party's a new next hop.
 #[no_mangle]
 pub extern "C" fn gateway_change(
     k: u32,
@@ -92,14 +94,15 @@ pub extern "C" fn gateway_change(
     c: u32,
     counters: &mut [u8],
     slots: &mut [u32],
+    party: u32,
     prefix: u32,
     length: u32,
     hop: u32,
 ) -> u64
-    ensures { λ r. ⌜ Crossed (change (settings-of k (now (d .entry)) e s a b c) (lent (now (counters .entry)) (now (slots .entry))) prefix length hop) r (now (counters .exit)) (now (slots .exit)) ⌝ }
+    ensures { λ r. ⌜ Crossed (change (settings-of k (now (d .entry)) e s a b c) (lent (now (counters .entry)) (now (slots .entry))) party prefix length hop) r (now (counters .exit)) (now (slots .exit)) ⌝ }
 {
     let settings = settings_of(k, d, e, s, a, b, c);
-    refusal_part(table::change(settings, counters, slots, prefix, length, hop))
+    refusal_part(table::change(settings, counters, slots, party, prefix, length, hop))
 }
 
 // Which lengths' filters claim an address, bit L - 1 for length L: refusal·2^48 + vector.
@@ -122,7 +125,7 @@ pub extern "C" fn gateway_match_vector(
     number_of_vector(c_calls::match_vector(settings, d, counters, slots, address))
 }
 
-// The longest stored route that matches an address:
+// The longest route stored for the party that matches an address:
 // refusal·2^48 + found·2^40 + hop·2^16 + length·2^8 + probes.
 #[no_mangle]
 pub extern "C" fn gateway_lookup(
@@ -135,15 +138,16 @@ pub extern "C" fn gateway_lookup(
     c: u32,
     counters: &[u8],
     slots: &[u8],
+    party: u32,
     address: u32,
 ) -> u64
-    ensures { λ r. ⌜ r ≡ c-lookup (settings-of k (now (d .entry)) e s a b c) (now (counters .entry)) (now (slots .entry)) address ⌝ }
+    ensures { λ r. ⌜ r ≡ c-lookup (settings-of k (now (d .entry)) e s a b c) (now (counters .entry)) (now (slots .entry)) party address ⌝ }
 {
     let settings = settings_of(k, d, e, s, a, b, c);
-    number_of_answer(c_calls::lookup(settings, d, counters, slots, address))
+    number_of_answer(c_calls::lookup(settings, d, counters, slots, party, address))
 }
 
-// The lookup of each address of a list, in its order: found as 1 or 0, hop, length and probes, four
+// The party's lookup of each address of a list, in its order: found as 1 or 0, hop, length and probes, four
 // words to an address. Slots, addresses and results are bytes, four to a word.
 #[no_mangle]
 pub extern "C" fn gateway_lookup_list(
@@ -156,16 +160,17 @@ pub extern "C" fn gateway_lookup_list(
     c: u32,
     counters: &[u8],
     slots: &[u8],
+    party: u32,
     addresses: &[u8],
     results: &mut [u8],
 ) -> u64
-    ensures { λ r. ⌜ ListCrossed (c-lookup-list (settings-of k (now (d .entry)) e s a b c) (now (counters .entry)) (now (slots .entry)) (now (addresses .entry)) (now (results .entry))) r (now (results .exit)) ⌝ }
+    ensures { λ r. ⌜ ListCrossed (c-lookup-list (settings-of k (now (d .entry)) e s a b c) (now (counters .entry)) (now (slots .entry)) party (now (addresses .entry)) (now (results .entry))) r (now (results .exit)) ⌝ }
 {
     let settings = settings_of(k, d, e, s, a, b, c);
-    refusal_part(c_calls::lookup_list(settings, d, counters, slots, addresses, results))
+    refusal_part(c_calls::lookup_list(settings, d, counters, slots, party, addresses, results))
 }
 
-// Applies one message of a neighbour: refusal·2^48 + refused·2^12 + accepted.
+// Applies one message of a neighbour for a party: refusal·2^48 + refused·2^12 + accepted.
 #[no_mangle]
 pub extern "C" fn gateway_update(
     k: u32,
@@ -177,13 +182,14 @@ pub extern "C" fn gateway_update(
     c: u32,
     counters: &mut [u8],
     slots: &mut [u32],
+    party: u32,
     message: &[u8],
     hops: &[u32],
 ) -> u64
-    ensures { λ r. ⌜ MessageCrossed (apply-message (settings-of k (now (d .entry)) e s a b c) (lent (now (counters .entry)) (now (slots .entry))) (now (message .entry)) (now (hops .entry))) r (now (counters .exit)) (now (slots .exit)) ⌝ }
+    ensures { λ r. ⌜ MessageCrossed (apply-message (settings-of k (now (d .entry)) e s a b c) (lent (now (counters .entry)) (now (slots .entry))) party (now (message .entry)) (now (hops .entry))) r (now (counters .exit)) (now (slots .exit)) ⌝ }
 {
     let settings = settings_of(k, d, e, s, a, b, c);
-    number_of_report(message_calls::apply_message(settings, counters, slots, message, hops))
+    number_of_report(message_calls::apply_message(settings, counters, slots, party, message, hops))
 }
 
 // Writes the message that withdraws a route, into room of exactly its size.
@@ -194,8 +200,8 @@ pub extern "C" fn gateway_write_withdrawal(prefix: u32, length: u32, room: &mut 
     refusal_part(message_writers::write_withdrawal(prefix, length, room))
 }
 
-// Takes one chunk of a dump: adds the route of each record that is complete with it, and counts. What is kept
-// of the stream between two chunks lies in three words and in room for one record.
+// Takes one chunk of a dump: adds for the party the route of each record that is complete with it, and counts. What
+// is kept of the stream between two chunks lies in three words and in room for one record.
 #[no_mangle]
 pub extern "C" fn gateway_import(
     k: u32,
@@ -207,20 +213,22 @@ pub extern "C" fn gateway_import(
     c: u32,
     counters: &mut [u8],
     slots: &mut [u32],
+    party: u32,
     hops: &[u32],
     counts: &mut [u32; 3],
     words: &mut [u32; 3],
     room: &mut [u8; 65548],
     chunk: &[u8],
 ) -> u64
-    ensures { λ r. ⌜ ChunkCrossed (import-chunk (settings-of k (now (d .entry)) e s a b c) (lent (now (counters .entry)) (now (slots .entry))) (now (hops .entry)) (now (counts .entry)) (now (words .entry)) (now (room .entry)) (now (chunk .entry))) r (now (counts .exit)) (now (words .exit)) (now (room .exit)) (now (counters .exit)) (now (slots .exit)) ⌝ }
+    ensures { λ r. ⌜ ChunkCrossed (import-chunk (settings-of k (now (d .entry)) e s a b c) (lent (now (counters .entry)) (now (slots .entry))) party (now (hops .entry)) (now (counts .entry)) (now (words .entry)) (now (room .entry)) (now (chunk .entry))) r (now (counts .exit)) (now (words .exit)) (now (room .exit)) (now (counters .exit)) (now (slots .exit)) ⌝ }
 {
-    let settings = settings_of(k, d, e, s, a, b, c);
-    refusal_part(import_chunk(settings, counters, slots, hops, counts, words, room, chunk))
+    let t = settings_of(k, d, e, s, a, b, c);
+    let number = import_chunk(t, counters, slots, party, hops, counts, words, room, chunk);
+    refusal_part(number)
 }
 
-// Takes one chunk of a recorded day: applies the UPDATE of each record that is complete with it, and tallies the
-// record in 23 words, which are seen, applied, accepted and refused[0] to refused[19].
+// Takes one chunk of a recorded day: applies for the party the UPDATE of each record that is complete with it, and
+// tallies the record in 23 words, which are seen, applied, accepted and refused[0] to refused[19].
 #[no_mangle]
 pub extern "C" fn gateway_replay(
     k: u32,
@@ -232,16 +240,18 @@ pub extern "C" fn gateway_replay(
     c: u32,
     counters: &mut [u8],
     slots: &mut [u32],
+    party: u32,
     hops: &[u32],
     tally: &mut [u32; 23],
     words: &mut [u32; 3],
     room: &mut [u8; 65548],
     chunk: &[u8],
 ) -> u64
-    ensures { λ r. ⌜ ChunkCrossed (replay-chunk (settings-of k (now (d .entry)) e s a b c) (lent (now (counters .entry)) (now (slots .entry))) (now (hops .entry)) (now (tally .entry)) (now (words .entry)) (now (room .entry)) (now (chunk .entry))) r (now (tally .exit)) (now (words .exit)) (now (room .exit)) (now (counters .exit)) (now (slots .exit)) ⌝ }
+    ensures { λ r. ⌜ ChunkCrossed (replay-chunk (settings-of k (now (d .entry)) e s a b c) (lent (now (counters .entry)) (now (slots .entry))) party (now (hops .entry)) (now (tally .entry)) (now (words .entry)) (now (room .entry)) (now (chunk .entry))) r (now (tally .exit)) (now (words .exit)) (now (room .exit)) (now (counters .exit)) (now (slots .exit)) ⌝ }
 {
-    let settings = settings_of(k, d, e, s, a, b, c);
-    refusal_part(replay_chunk(settings, counters, slots, hops, tally, words, room, chunk))
+    let t = settings_of(k, d, e, s, a, b, c);
+    let number = replay_chunk(t, counters, slots, party, hops, tally, words, room, chunk);
+    refusal_part(number)
 }
 
 // Ends a stream of records: 17 inside a record.

@@ -28,26 +28,26 @@ use Rattle.import_calls.specs.Chunks.{Low, step-done}
 
 -- ---- What a record did
 
-module _ (t : Settings) (hops : List ℕ) (earlier : ImportCounts) (counters slots bytes : List ℕ) where
-  pub route-done : {p L hop : ℕ} → record-read bytes hops ≡ Route p L hop → {number : ℕ} {counters' slots' : List ℕ} → add t (lent counters slots) p L hop ≡ left number counters' slots'
-      → {next : ImportCounts} → next ≡ counts-more earlier (number ∷ []) → record-done t (importing hops) (work earlier counters slots) bytes ≡ step-done earlier (step.Good next) counters' slots'
+module _ (t : Settings) (party : ℕ) (hops : List ℕ) (earlier : ImportCounts) (counters slots bytes : List ℕ) where
+  pub route-done : {p L hop : ℕ} → record-read bytes hops ≡ Route p L hop → {number : ℕ} {counters' slots' : List ℕ} → add t (lent counters slots) party p L hop ≡ left number counters' slots'
+      → {next : ImportCounts} → next ≡ counts-more earlier (number ∷ []) → record-done t (importing party hops) (work earlier counters slots) bytes ≡ step-done earlier (step.Good next) counters' slots'
   unfolding importing step-done run each act
   route-done is added counted =
       let told = record-told bytes hops is in
-      record-counts t (importing hops) _ bytes (rw (told .good)) ∙ rw (told .calls, added, counted)
+      record-counts t (importing party hops) _ bytes (rw (told .good)) ∙ rw (told .calls party, added, counted)
 
   pub hopless-done : record-read bytes hops ≡ Hopless → {next : ImportCounts} → next ≡ counts-more earlier []
-      → record-done t (importing hops) (work earlier counters slots) bytes ≡ step-done earlier (step.Good next) counters slots
+      → record-done t (importing party hops) (work earlier counters slots) bytes ≡ step-done earlier (step.Good next) counters slots
   unfolding importing step-done run each
   hopless-done is counted =
       let told = record-told bytes hops is in
-      record-counts t (importing hops) _ bytes (rw (told .0)) ∙ rw (told .1, counted)
+      record-counts t (importing party hops) _ bytes (rw (told .0)) ∙ rw (told .1 party, counted)
 
-  pub fault-done : record-read bytes hops ≡ Fault → record-done t (importing hops) (work earlier counters slots) bytes ≡ step-done earlier step.Fault counters slots
+  pub fault-done : record-read bytes hops ≡ Fault → record-done t (importing party hops) (work earlier counters slots) bytes ≡ step-done earlier step.Fault counters slots
   unfolding importing step-done
   fault-done is =
       let bad = record-told bytes hops is in
-      record-ends t (importing hops) _ bytes (rw bad (omega arith)) ∙ rw bad
+      record-ends t (importing party hops) _ bytes (rw bad (omega arith)) ∙ rw bad
 
 -- ---- How far the counts may be
 
@@ -86,15 +86,15 @@ module _ {counts : ImportCounts} {more : ℕ} (low : Low counts more) where
       go false = omega (arith, low .hopless-low)
 
 -- A record is one call at most, so no count grows by more than one.
-pub counts-grow : (t : Settings) (hops : List ℕ) → Grows t (importing hops) Low
+pub counts-grow : (t : Settings) (party : ℕ) (hops : List ℕ) → Grows t (importing party hops) Low
 unfolding importing run
-counts-grow t hops = record {
+counts-grow t party hops = record {
   within = λ low less. low-within low less;
   reads = λ w bytes low. cases (record-good bytes)
-      (λ good. rw (record-counts t (importing hops) w bytes (rw good)) (counted-low low _ (few w bytes)))
-      (λ bad. rw (record-ends t (importing hops) w bytes (rw bad (omega arith))) (low-within low (omega arith)));
+      (λ good. rw (record-counts t (importing party hops) w bytes (rw good)) (counted-low low _ (few w bytes)))
+      (λ bad. rw (record-ends t (importing party hops) w bytes (rw bad (omega arith))) (low-within low (omega arith)));
   steps-over = λ low. low-within low (omega arith);
 }
   where
-    few : (w : Work ImportCounts) (bytes : List ℕ) → length (run t (w .memory) (record-calls bytes hops) .answers) ≤ 1
-    few w bytes = rw answers-length (calls-few bytes hops)
+    few : (w : Work ImportCounts) (bytes : List ℕ) → length (run t (w .memory) (record-calls party bytes hops) .answers) ≤ 1
+    few w bytes = rw answers-length (calls-few party bytes hops)

@@ -9,9 +9,9 @@ pub import-chunk-determined : (κs : Lfts 7) (a : _) (r q : _) (s e : _) → imp
     → (r ≡ q)
     × ((now (s .1 .0) ≡ now (e .1 .0))
     × ((now (s .1 .1 .0) ≡ now (e .1 .1 .0))
-    × ((now (s .1 .1 .1 .1 .0) ≡ now (e .1 .1 .1 .1 .0))
     × ((now (s .1 .1 .1 .1 .1 .0) ≡ now (e .1 .1 .1 .1 .1 .0))
-    × (now (s .1 .1 .1 .1 .1 .1 .0) ≡ now (e .1 .1 .1 .1 .1 .1 .0))))))
+    × ((now (s .1 .1 .1 .1 .1 .1 .0) ≡ now (e .1 .1 .1 .1 .1 .1 .0))
+    × (now (s .1 .1 .1 .1 .1 .1 .1 .0) ≡ now (e .1 .1 .1 .1 .1 .1 .1 .0))))))
 import-chunk-determined κs a r q s e one other =
     let same = sym one ∙ other in
     (ap (λ u. u .number) same, (ap (λ u. u .memory .counters) same, (ap (λ u. u .memory .slots) same, (ap (λ u. u .counts) same, (ap (λ u. u .words) same, ap (λ u. u .room) same)))))

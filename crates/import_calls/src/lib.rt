@@ -88,6 +88,7 @@ fn import_record(
     settings: Settings,
     counters: &mut [u8],
     slots: &mut [u32],
+    party: u32,
     room: &[u8],
     size: usize,
     hops: &[u32],
@@ -96,9 +97,10 @@ fn import_record(
     requires { ⌜ in-range settings ≡ true ⌝ }
     requires { ⌜ Counters settings (now counters) ⌝ }
     requires { ⌜ Slots settings (now slots) ⌝ }
+    requires { ⌜ party ≤ 1 ⌝ }
     requires { ⌜ size ≤ length (now room) ⌝ }
     requires { ⌜ Low earlier 65536 ⌝ }
-    ensures { λ r. ⌜ record-done settings (importing (now (hops .entry))) (work earlier (now (counters .entry)) (now (slots .entry))) (take size (now (room .entry))) ≡ step-done earlier r (now (counters .exit)) (now (slots .exit)) ⌝ }
+    ensures { λ r. ⌜ record-done settings (importing party (now (hops .entry))) (work earlier (now (counters .entry)) (now (slots .entry))) (take size (now (room .entry))) ≡ step-done earlier r (now (counters .exit)) (now (slots .exit)) ⌝ }
 {
     match read_record(&room[..size], hops) {
         RecordRead::Route {
@@ -106,7 +108,7 @@ fn import_record(
             length,
             hop,
         } => {
-            let number = add_announced(settings, counters, slots, prefix, length, hop);
+            let number = add_announced(settings, counters, slots, party, prefix, length, hop);
             Step::Good(count_route(earlier, number))
         }
         RecordRead::Hopless => Step::Good(count_hopless(earlier)),
@@ -119,6 +121,7 @@ fn take_chunk(
     settings: Settings,
     counters: &mut [u8],
     slots: &mut [u32],
+    party: u32,
     hops: &[u32],
     earlier: ImportCounts,
     begun: Stage,
@@ -128,10 +131,11 @@ fn take_chunk(
     requires { ⌜ in-range settings ≡ true ⌝ }
     requires { ⌜ Counters settings (now counters) ⌝ }
     requires { ⌜ Slots settings (now slots) ⌝ }
+    requires { ⌜ party ≤ 1 ⌝ }
     requires { ⌜ Low earlier 0 ⌝ }
     requires { ⌜ Sound begun ⌝ }
     requires { ⌜ length (now chunk) ≤ 65536 ⌝ }
-    ensures { λ r. ⌜ chunk-taken dump-kind (doing settings (importing (now (hops .entry)))) (stream begun (now (room .entry)) (work earlier (now (counters .entry)) (now (slots .entry)))) (now (chunk .entry)) ≡ taken-to r (now (room .exit)) (now (counters .exit)) (now (slots .exit)) ⌝ }
+    ensures { λ r. ⌜ chunk-taken dump-kind (doing settings (importing party (now (hops .entry)))) (stream begun (now (room .entry)) (work earlier (now (counters .entry)) (now (slots .entry)))) (now (chunk .entry)) ≡ taken-to r (now (room .exit)) (now (counters .exit)) (now (slots .exit)) ⌝ }
     ensures { λ r. ⌜ Sound (r .stage) ⌝ }
 {
     let mut stage = begun;
@@ -147,7 +151,7 @@ fn take_chunk(
                 return Taken { stage, counts };
             }
             Event::Record { size } => {
-                match import_record(settings, counters, slots, room, size, hops, counts) {
+                match import_record(settings, counters, slots, party, room, size, hops, counts) {
                     Step::Good(more) => {
                         counts = more;
                     }
@@ -200,27 +204,38 @@ pub fn import_chunk(
     settings: Settings,
     counters: &mut [u8],
     slots: &mut [u32],
+    party: u32,
     hops: &[u32],
     counts: &mut [u32; 3],
     words: &mut [u32; 3],
     room: &mut [u8; 65548],
     chunk: &[u8],
 ) -> u32
-    ensures { λ r. ⌜ import-chunk settings (lent (now (counters .entry)) (now (slots .entry))) (now (hops .entry)) (now (counts .entry)) (now (words .entry)) (now (room .entry)) (now (chunk .entry)) ≡ chunked r (now (counts .exit)) (now (words .exit)) (now (room .exit)) (now (counters .exit)) (now (slots .exit)) ⌝ }
+    ensures { λ r. ⌜ import-chunk settings (lent (now (counters .entry)) (now (slots .entry))) party (now (hops .entry)) (now (counts .entry)) (now (words .entry)) (now (room .entry)) (now (chunk .entry)) ≡ chunked r (now (counts .exit)) (now (words .exit)) (now (room .exit)) (now (counters .exit)) (now (slots .exit)) ⌝ }
 {
     let ended = words[0];
     let begun = stage_of(dump_kind(), words, room);
     let number = number_of(begun);
     let earlier = counts_of(counts);
     let high = counts_high(earlier);
-    let refusal = refuse_chunk(settings, counters, slots, high, chunk);
+    let refusal = refuse_chunk(settings, counters, slots, party, high, chunk);
     if ended != 0 {
         return number;
     }
     if refusal != 0 {
         return refusal;
     }
-    let taken = take_chunk(settings, counters, slots, hops, earlier, begun, room, chunk);
+    let taken = take_chunk(
+        settings,
+        counters,
+        slots,
+        party,
+        hops,
+        earlier,
+        begun,
+        room,
+        chunk,
+    );
     let stage = taken.stage;
     keep_counts(taken.counts, counts);
     keep_stage(stage, words);

@@ -48,39 +48,39 @@ module _ (bytes : List ℕ) where
   unfolding prefix-from record-good
   route-short good = leb-true _ _ (both (leb (byte bytes route-from) 32) _ good .0)
 
-  -- ---- Its calls
+  -- its hop is at most 65,535
+  pub route-fits : (hops : List ℕ) {hop : ℕ} → route-hop bytes hops ≡ some hop → hop ≤ 65535
+  unfolding route-hop
+  route-fits hops is = chosen-fits bytes hops _ is
 
-  module _ (hops : List ℕ) where
-    -- without a hop there is none
-    pub calls-none : route-hop bytes hops ≡ none → record-calls bytes hops ≡ []
-    unfolding record-calls announcements
-    calls-none is = rw is
+-- ---- Its calls
 
-    -- with a hop it is the add of the prefix
-    pub calls-one : {hop : ℕ} → route-hop bytes hops ≡ some hop → record-calls bytes hops ≡ Add p L hop ∷ []
-    unfolding record-calls announcements
-    calls-one is = rw is
+module _ (party : ℕ) (bytes hops : List ℕ) where
+  -- without a hop there is none
+  pub calls-none : route-hop bytes hops ≡ none → record-calls party bytes hops ≡ []
+  unfolding record-calls announcements
+  calls-none is = rw is
 
-    -- that hop is at most 65,535
-    pub route-fits : {hop : ℕ} → route-hop bytes hops ≡ some hop → hop ≤ 65535
-    unfolding route-hop
-    route-fits is = chosen-fits bytes hops _ is
+  -- with a hop it is the party's add of the prefix
+  pub calls-one : {hop : ℕ} → route-hop bytes hops ≡ some hop → record-calls party bytes hops ≡ Add party (p bytes) (L bytes) hop ∷ []
+  unfolding record-calls announcements
+  calls-one is = rw is
 
-    -- whatever is so of no call, and of one add, is so of a record's calls
-    pub by-calls : (P : List Call → Type 0) → P [] → ((hop : ℕ) → hop ≤ 65535 → P (Add p L hop ∷ [])) → P (record-calls bytes hops)
-    by-calls P nothing one = go (route-hop bytes hops) refl
-      where
-        go : (hop : Option ℕ) → route-hop bytes hops ≡ hop → P (record-calls bytes hops)
-        go none is = rw (calls-none is) nothing
-        go (some hop) is = rw (calls-one is) (one hop (route-fits is))
+  -- whatever is so of no call, and of one add, is so of a record's calls
+  pub by-calls : (P : List Call → Type 0) → P [] → ((hop : ℕ) → hop ≤ 65535 → P (Add party (p bytes) (L bytes) hop ∷ [])) → P (record-calls party bytes hops)
+  by-calls P nothing one = go (route-hop bytes hops) refl
+    where
+      go : (hop : Option ℕ) → route-hop bytes hops ≡ hop → P (record-calls party bytes hops)
+      go none is = rw (calls-none is) nothing
+      go (some hop) is = rw (calls-one is) (one hop (route-fits bytes hops is))
 
-    -- there is no call, or one
-    pub calls-few : length (record-calls bytes hops) ≤ 1
-    calls-few = by-calls (λ calls. length calls ≤ 1) (omega arith) (λ hop low. omega arith)
+  -- there is no call, or one
+  pub calls-few : length (record-calls party bytes hops) ≤ 1
+  calls-few = by-calls (λ calls. length calls ≤ 1) (omega arith) (λ hop low. omega arith)
 
-    -- Whatever its call is given, a record adds one to one of the counts.
-    pub counted-once : (t : Settings) (m : Memory) (earlier : ImportCounts)
-        → let more = counts-more earlier (run t m (record-calls bytes hops) .answers) in
-        more .accepted + more .refused + more .hopless ≡ earlier .accepted + earlier .refused + earlier .hopless + 1
-    unfolding counts-more run
-    counted-once t m earlier = omega (arith, one-of (run t m (record-calls bytes hops) .answers) (rw answers-length calls-few))
+  -- Whatever its call is given, a record adds one to one of the counts.
+  pub counted-once : (t : Settings) (m : Memory) (earlier : ImportCounts)
+      → let more = counts-more earlier (run t m (record-calls party bytes hops) .answers) in
+      more .accepted + more .refused + more .hopless ≡ earlier .accepted + earlier .refused + earlier .hopless + 1
+  unfolding counts-more run
+  counted-once t m earlier = omega (arith, one-of (run t m (record-calls party bytes hops) .answers) (rw answers-length calls-few))

@@ -10,7 +10,7 @@ use Rattle.message_format.proofs.Words.{prefix-small}
 use Rattle.import_format.specs.Routes.{route-from, record-calls}
 use Rattle.import_format.proofs.Counting.{by-calls}
 
-pub record-words : (bytes hops : List ℕ) → areBytes bytes ≡ true → all-word-sized (record-calls bytes hops) ≡ true
+pub record-words : (party : ℕ) (bytes hops : List ℕ) → areBytes bytes ≡ true → all-word-sized (record-calls party bytes hops) ≡ true
 unfolding word-sized all-word-sized
-record-words bytes hops small = by-calls bytes hops (λ calls. all-word-sized calls ≡ true) refl
+record-words party bytes hops small = by-calls party bytes hops (λ calls. all-word-sized calls ≡ true) refl
     (λ hop low. rw (lt-ltb _ _ (prefix-small bytes small route-from)))

@@ -4,7 +4,7 @@ use mathlib.Core.Path.{_≡_, refl}
 use mathlib.Core.Bool.{true}
 use mathlib.Core.List.{List, [], _∷_, map, _++_}
 use mathlib.Core.Option.{Option, some, none}
-use lib.ListN.{length, take, drop, replicate}
+use lib.ListN.{getD, length, take, drop, replicate}
 use Rattle.rules.specs.declared.Settings.{Settings}
 use Rattle.rules.specs.Tools.{fed}
 use Rattle.rules.specs.Table.{Memory, add, lookup, one-if}
@@ -78,11 +78,11 @@ room = replicate 100 0
 
 -- a chunk that begins a stream, on a cleared table
 abbrev begun : (chunk : List ℕ) → Chunked
-begun chunk = import-chunk T (empty T) hops (three 0 0 0) (three 0 0 0) room chunk
+begun chunk = import-chunk T (empty T) 0 hops (three 0 0 0) (three 0 0 0) room chunk
 
 -- a chunk after another
 abbrev then : Chunked → (chunk : List ℕ) → Chunked
-then i chunk = import-chunk T (i .memory) hops (i .counts) (i .words) (i .room) chunk
+then i chunk = import-chunk T (i .memory) 0 hops (i .counts) (i .words) (i .room) chunk
 
 -- the end after it
 abbrev ended : Chunked → Chunked
@@ -102,7 +102,7 @@ leaves number counts words m front = number ∷ counts ++ words ++ m .counters +
 
 -- a record that begins a stream adds a prefix with a hop
 abbrev adds : (bytes : List ℕ) (p L hop : ℕ) → Case
-adds bytes p L hop = case (told (begun bytes)) (leaves 0 (three 1 0 0) (three 0 0 0) (add T (empty T) p L hop .memory) bytes)
+adds bytes p L hop = case (told (begun bytes)) (leaves 0 (three 1 0 0) (three 0 0 0) (add T (empty T) 0 p L hop .memory) bytes)
 
 -- it has no hop
 abbrev hopless : (bytes : List ℕ) → Case
@@ -122,9 +122,9 @@ records =
     ∷ case (prefix-from sample route-from .length ∷ prefix-from sample route-from .prefix ∷ one (route-hop sample hops)) (8 ∷ ip 10 0 0 0 ∷ 1 ∷ [])
     -- I2: it adds 10/8 with hop 1, the lowest place of 10.9.9.1, and 10.2.2.3 is then found
     ∷ adds sample (ip 10 0 0 0) 8 1
-    ∷ case (figures (lookup T (begun sample .memory) (ip 10 2 2 3))) (finds 1 8 1)
+    ∷ case (figures (lookup T (begun sample .memory) 0 (ip 10 2 2 3))) (finds 1 8 1)
     -- in lent room of its true size too
-    ∷ case (told (import-chunk T (empty T) hops (three 0 0 0) (three 0 0 0) (sevens 65548) sample)) (numbers (begun sample) ++ begun sample .memory .counters ++ begun sample .memory .slots ++ sample ++ sevens 65506)
+    ∷ case (told (import-chunk T (empty T) 0 hops (three 0 0 0) (three 0 0 0) (sevens 65548) sample)) (numbers (begun sample) ++ begun sample .memory .counters ++ begun sample .memory .slots ++ sample ++ sevens 65506)
     -- I3: bits after the length are cleared: 9 bits of 10.255 are 10.128/9; the default has no byte
     ∷ adds (dumped (9 ∷ 10 ∷ 255 ∷ []) (by 1 ∷ [])) (ip 10 128 0 0) 9 1
     ∷ adds (dumped (0 ∷ []) (by 1 ∷ [])) 0 0 1
@@ -141,7 +141,7 @@ records =
     ∷ hopless (dumped ten [])
     -- I9: 10/8 and 8/8 fill a bucket: 9/8 is refused, and counted; 10/8 again is accepted, with the new hop
     ∷ case (told (begun (sample ++ dumped (8 ∷ 8 ∷ []) (by 1 ∷ []) ++ dumped (8 ∷ 9 ∷ []) (by 1 ∷ []) ++ dumped ten (by 2 ∷ []))))
-    (leaves 0 (three 3 1 0) (three 0 0 0) (add T (add T (begun sample .memory) (ip 8 0 0 0) 8 1 .memory) (ip 10 0 0 0) 8 0 .memory) (dumped ten (by 2 ∷ []) ++ drop 35 sample))
+    (leaves 0 (three 3 1 0) (three 0 0 0) (add T (add T (begun sample .memory) 0 (ip 8 0 0 0) 8 1 .memory) 0 (ip 10 0 0 0) 8 0 .memory) (dumped ten (by 2 ∷ []) ++ drop 35 sample))
     -- I34: 127/8 and 224/4 are refused, and counted; the record after them is done
     ∷ case (told (begun (dumped (8 ∷ 127 ∷ []) (by 1 ∷ []) ++ dumped (4 ∷ 224 ∷ []) (by 1 ∷ []) ++ sample)))
     (leaves 0 (three 1 2 0) (three 0 0 0) (begun sample .memory) sample)
@@ -178,7 +178,7 @@ faults =
     ∷ headed []
     ∷ [])
     -- I16: the record before it stays, added and counted, and the record after it does nothing
-    ++ case (told (begun (dumped ten (by 2 ∷ []) ++ headed [] ++ sample))) (leaves 12 (three 1 0 0) (three 13 0 0) (add T (empty T) (ip 10 0 0 0) 8 0 .memory) (headed [] ++ drop 12 (dumped ten (by 2 ∷ []))))
+    ++ case (told (begun (dumped ten (by 2 ∷ []) ++ headed [] ++ sample))) (leaves 12 (three 1 0 0) (three 13 0 0) (add T (empty T) 0 (ip 10 0 0 0) 8 0 .memory) (headed [] ++ drop 12 (dumped ten (by 2 ∷ []))))
     ∷ []
 
 -- ---- Records that are stepped over, and a record that is too long
@@ -192,7 +192,7 @@ kinds =
     -- I17: a record of another kind is stepped over, with no bytes and with a body that is itself a record; what follows is read
     case (heads 13 1 (0 ∷ 0 ∷ 0 ∷ 0 ∷ [])) (leaves 0 (three 0 0 0) (three 0 0 0) (empty T) (header 13 1 (0 ∷ 0 ∷ 0 ∷ 0 ∷ [])))
     ∷ case (told (begun (header 13 4 (0 ∷ 0 ∷ 0 ∷ 42 ∷ []) ++ sample))) (leaves 0 (three 0 0 0) (three 0 0 0) (empty T) (header 13 4 (0 ∷ 0 ∷ 0 ∷ 42 ∷ [])))
-    ∷ case (told (begun (header 12 2 (0 ∷ 0 ∷ 0 ∷ 1 ∷ 9 ∷ []) ++ sample))) (leaves 0 (three 1 0 0) (three 0 0 0) (add T (empty T) (ip 10 0 0 0) 8 1 .memory) sample)
+    ∷ case (told (begun (header 12 2 (0 ∷ 0 ∷ 0 ∷ 1 ∷ 9 ∷ []) ++ sample))) (leaves 0 (three 1 0 0) (three 0 0 0) (add T (empty T) 0 (ip 10 0 0 0) 8 1 .memory) sample)
     -- I18: a body of 65,537 bytes ends the import with 14 as its header is complete; the bytes after that are not kept
     ∷ case (told (begun (header 13 2 (0 ∷ 1 ∷ 0 ∷ 1 ∷ []) ++ (7 ∷ 7 ∷ [])))) (leaves 14 (three 0 0 0) (three 15 0 0) (empty T) (header 13 2 (0 ∷ 1 ∷ 0 ∷ 1 ∷ [])))
     -- I19: one of 65,536 is read
@@ -250,7 +250,7 @@ means a b c front = words-of (stage-of dump-kind (three a b c) front)
 
 -- a call on words that no call leaves
 abbrev on : (a b c : ℕ) (chunk : List ℕ) → Chunked
-on a b c chunk = import-chunk T (empty T) hops (three 0 0 0) (three a b c) room chunk
+on a b c chunk = import-chunk T (empty T) 0 hops (three 0 0 0) (three a b c) room chunk
 
 words : List Case
 words =
@@ -270,15 +270,15 @@ words =
 -- one is given a number, and all is as it was
 abbrev not-taken : (number : ℕ) (counts words chunk : List ℕ) → Case
 not-taken number counts words chunk =
-    case (told (import-chunk T (empty T) hops counts words room chunk)) (leaves number counts words (empty T) [])
+    case (told (import-chunk T (empty T) 0 hops counts words room chunk)) (leaves number counts words (empty T) [])
 
 -- memory with a counter too few
 abbrev few : Memory
-few = record { counters = sevens 511; slots = sevens 257 }
+few = record { counters = sevens 511; slots = sevens 258 }
 
 -- a chunk on it
 abbrev over-511 : Settings → (counts : List ℕ) → Chunked
-over-511 t counts = import-chunk t few hops counts (three 0 0 0) room sample
+over-511 t counts = import-chunk t few 0 hops counts (three 0 0 0) room sample
 
 untaken : List Case
 untaken =
@@ -286,10 +286,10 @@ untaken =
     not-taken 19 (three 4000000001 0 0) (three 0 0 0) sample
     ∷ not-taken 19 (three 0 4000000001 0) (three 0 5 0) sample
     ∷ not-taken 19 (three 0 0 4294967295) (three 0 0 9) []
-    ∷ case (numbers (import-chunk T (empty T) hops (replicate 3 4000000000) (three 0 0 0) room sample)) (0 ∷ three 4000000001 4000000000 4000000000 ++ three 0 0 0)
+    ∷ case (numbers (import-chunk T (empty T) 0 hops (replicate 3 4000000000) (three 0 0 0) room sample)) (0 ∷ three 4000000001 4000000000 4000000000 ++ three 0 0 0)
     -- I32: a chunk of 65,537 bytes, and not one of 65,536
     ∷ not-taken 19 (three 0 0 0) (three 0 0 0) (replicate 65537 0)
-    ∷ case (chunk-refusal T (empty T) (counts-high (counts-of (three 0 0 0))) (replicate 65536 0) ∷ []) (0 ∷ [])
+    ∷ case (chunk-refusal T (empty T) 0 (counts-high (counts-of (three 0 0 0))) (replicate 65536 0) ∷ []) (0 ∷ [])
     -- I33: the end goes before 19, 19 before 1, and 1 before 2
     ∷ not-taken 14 (three 4000000001 0 0) (three 15 0 0) sample
     ∷ case (told (over-511 (settings 9 4 1 2 1 2 1) (three 4000000001 0 0))) (leaves 19 (three 4000000001 0 0) (three 0 0 0) few [])
@@ -297,11 +297,67 @@ untaken =
     ∷ case (told (over-511 T (three 0 0 0))) (leaves 2 (three 0 0 0) (three 0 0 0) few [])
     ∷ []
 
+-- ---- The two parties
+
+-- a chunk of a party's that begins a stream, on this table
+abbrev by-party : (party : ℕ) → Memory → (chunk : List ℕ) → Chunked
+by-party party m chunk = import-chunk T m party hops (three 0 0 0) (three 0 0 0) room chunk
+
+-- records of 10/8 and the default, with NEXT_HOP 10.9.9.n
+abbrev two-routes : (n : ℕ) → List ℕ
+two-routes n = dumped ten (by n ∷ []) ++ dumped (0 ∷ []) (by n ∷ [])
+
+-- those of party 0, with hop 1; and then those of party 1, with hop 0
+abbrev alone : Chunked
+alone = by-party 0 (empty T) (two-routes 1)
+
+abbrev both : Chunked
+both = by-party 1 (alone .memory) (two-routes 2)
+
+-- then 8/8 and 10/8 of a party's, with NEXT_HOP 10.9.9.n
+abbrev again : (party n : ℕ) → Chunked
+again party n = by-party party (both .memory) (dumped (8 ∷ 8 ∷ []) (by n ∷ []) ++ dumped ten (by n ∷ []))
+
+-- the marks in the two slots of the bucket of 10/8 at length 8, and the two default words
+abbrev marks : Chunked → List ℕ
+marks i = map (λ word. getD (i .memory .slots) word 0) (57 ∷ 59 ∷ 256 ∷ 257 ∷ [])
+
+-- what each party then finds
+abbrev found-by : (address : ℕ) → List ℕ
+found-by address = figures (lookup T (both .memory) 0 address) ++ figures (lookup T (both .memory) 1 address)
+
+-- a chunk of party 2's is given a number, and all is as it was
+abbrev not-known : Settings → Memory → (number : ℕ) (counts words : List ℕ) → Case
+not-known t m number counts words = case (told (import-chunk t m 2 hops counts words room sample)) (leaves number counts words m [])
+
+-- memory with a word too few
+abbrev word-short : Memory
+word-short = record { counters = sevens 512; slots = sevens 257 }
+
+parties : List Case
+parties =
+    -- I36: party 1's 10/8 and default are stored beside party 0's, with marks from 65,537 on, and each party finds its own
+    case (told both) (leaves 0 (three 2 0 0) (three 0 0 0) (add T (add T (alone .memory) 1 (ip 10 0 0 0) 8 0 .memory) 1 0 0 0 .memory) (dumped (0 ∷ []) (by 2 ∷ []) ++ drop 34 (dumped ten (by 2 ∷ []))))
+    ∷ case (marks alone ++ marks both) (2 ∷ 0 ∷ 2 ∷ 0 ∷ 2 ∷ 65537 ∷ 2 ∷ 65537 ∷ [])
+    ∷ case (found-by (ip 10 2 2 3) ++ found-by (ip 11 0 0 1)) (finds 1 8 1 ++ finds 0 8 1 ++ finds 1 0 0 ++ finds 0 0 0)
+    -- I37: the two fill the bucket, so that 8/8 of either party is refused, and counted; 10/8 again gets the caller's hop alone
+    ∷ case (numbers (again 0 2) ++ numbers (again 1 1)) (0 ∷ three 1 1 0 ++ three 0 0 0 ++ 0 ∷ three 1 1 0 ++ three 0 0 0)
+    ∷ case (marks (again 0 2) ++ marks (again 1 1)) (1 ∷ 65537 ∷ 2 ∷ 65537 ∷ 2 ∷ 65538 ∷ 2 ∷ 65537 ∷ [])
+    -- I38: party 2 is given 15, and changes nothing; the end goes before it, and so do 19, 1, and 2
+    ∷ not-known T (empty T) 15 (three 0 0 0) (three 0 0 0)
+    ∷ not-known T (both .memory) 15 (three 2 0 0) (three 0 5 0)
+    ∷ not-known T few 2 (three 0 0 0) (three 0 0 0)
+    ∷ not-known T word-short 2 (three 0 0 0) (three 0 0 0)
+    ∷ not-known (settings 9 4 1 2 1 2 1) (empty T) 1 (three 0 0 0) (three 0 0 0)
+    ∷ not-known T (empty T) 19 (three 4000000001 0 0) (three 0 0 0)
+    ∷ not-known T (empty T) 14 (three 0 0 0) (three 15 0 0)
+    ∷ []
+
 -- to unfold this is to unfold all that an import computes with
 unfoldable pub computing : ℕ
 unfolding fed is-kind body-size to-read to-step-over header-read next-byte unless-ended completed byte-taken chunk-taken ended-word read-word left-word is-ended ended-number is-body stage-of words-of inside-record end-number end-stream entries-count entries-from entry-attributes after-entry entry-starts entries-to entries entry-good ends-well record-good entry-hop chosen-hop route-hop record-calls counts-more record-done record-over doing importing counts-of counts-words counts-high chunk-refusal stage-number lent-back taken-up take-chunk import-chunk messages-computing
 computing = 0
 
-all-come-out : come-out (records ++ faults ++ kinds ++ chunks ++ words ++ untaken) ≡ true
-unfolding records faults kinds chunks words untaken same-words come-out computing
+all-come-out : come-out (records ++ faults ++ kinds ++ chunks ++ words ++ untaken ++ parties) ≡ true
+unfolding records faults kinds chunks words untaken parties same-words come-out computing
 all-come-out = refl

@@ -38,12 +38,13 @@ counts-high counts =
 
 -- A record that is not well-formed ends the import with 12; any other adds its route, and is counted. Those of other kinds do
 -- nothing.
-unfoldable pub importing : (hops : List ℕ) → Reading ImportCounts
-importing hops =
+unfoldable pub importing : (party : ℕ) (hops : List ℕ) → Reading ImportCounts
+importing party hops =
     record {
+      party = party;
       kind = dump-kind;
       ends-with = λ bytes. cond (record-good bytes) 0 12;
-      calls = λ bytes. record-calls bytes hops;
+      calls = λ bytes. record-calls party bytes hops;
       counts-more = λ earlier bytes answers. counts-more earlier answers;
       counts-over = λ counts. counts;
       counts-of = counts-of;
@@ -52,5 +53,5 @@ importing hops =
     }
 
 -- a chunk of a dump
-unfoldable pub import-chunk : Settings → Memory → (hops counts words room chunk : List ℕ) → Chunked
-import-chunk t m hops counts words room chunk = take-chunk t (importing hops) m counts words room chunk
+unfoldable pub import-chunk : Settings → Memory → (party : ℕ) (hops counts words room chunk : List ℕ) → Chunked
+import-chunk t m party hops counts words room chunk = take-chunk t (importing party hops) m counts words room chunk

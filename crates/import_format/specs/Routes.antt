@@ -83,6 +83,6 @@ chosen-hop bytes hops (at ∷ entries) =
 unfoldable pub route-hop : (bytes hops : List ℕ) → Option ℕ
 route-hop bytes hops = chosen-hop bytes hops (entries bytes)
 
--- a record is the add of its prefix with that hop; with none it is no call
-unfoldable pub record-calls : (bytes hops : List ℕ) → List Call
-record-calls bytes hops = announcements (route-hop bytes hops) (prefix-from bytes route-from ∷ [])
+-- a record is the party's add of its prefix with that hop; with none it is no call
+unfoldable pub record-calls : (party : ℕ) (bytes hops : List ℕ) → List Call
+record-calls party bytes hops = announcements party (route-hop bytes hops) (prefix-from bytes route-from ∷ [])

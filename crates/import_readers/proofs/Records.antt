@@ -94,10 +94,10 @@ record-refused bytes hops = go (record-good bytes) (route-hop bytes hops)
     go true (some hop) = refl
     go false hop = refl
 
--- a route was read: it is the record's one call, and passes what an add asks first
+-- a route was read: it is the record's one call, whichever party's it is, and passes what an add asks first
 pub record RouteTold (bytes hops : List ℕ) (p L hop : ℕ) : Type 0 where
   pub good : record-good bytes ≡ true
-  pub calls : record-calls bytes hops ≡ Add p L hop ∷ []
+  pub calls : (party : ℕ) → record-calls party bytes hops ≡ Add party p L hop ∷ []
   pub high : L ≤ 32
   pub tight : prefix p L ≡ p
   pub low : hop ≤ 65535
@@ -105,7 +105,7 @@ pub record RouteTold (bytes hops : List ℕ) (p L hop : ℕ) : Type 0 where
 
 abbrev pub RecordTold : (bytes hops : List ℕ) → RecordRead → Type 0
 RecordTold bytes hops (Route p L hop) = RouteTold bytes hops p L hop
-RecordTold bytes hops Hopless = (record-good bytes ≡ true) × (record-calls bytes hops ≡ [])
+RecordTold bytes hops Hopless = (record-good bytes ≡ true) × ((party : ℕ) → record-calls party bytes hops ≡ [])
 RecordTold bytes hops Fault = record-good bytes ≡ false
 
 module _ (bytes hops : List ℕ) where
@@ -115,10 +115,10 @@ module _ (bytes hops : List ℕ) where
     where
       go : (good : Bool) (hop : Option ℕ) → record-good bytes ≡ good → route-hop bytes hops ≡ hop
           → RecordTold bytes hops (cond good (route-with (prefix-from bytes route-from) hop) Fault)
-      go true none good missing = (good, calls-none bytes hops missing)
+      go true none good missing = (good, λ party. calls-none party bytes hops missing)
       go true (some hop) good found = record {
         good = good;
-        calls = calls-one bytes hops found;
+        calls = λ party. calls-one party bytes hops found;
         high = route-short bytes good;
         tight = route-tight bytes;
         low = route-fits bytes hops found;

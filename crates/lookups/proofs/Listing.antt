@@ -49,41 +49,41 @@ sets-all d numbers e =
     ∙ append-nil numbers
 
 -- the first i addresses are answered
-pub record Listing (form : List ℕ → List ℕ) (t : Settings) (m : Memory) (addresses d now : List ℕ) (i : ℕ) : Type 0 where
+pub record Listing (form : List ℕ → List ℕ) (t : Settings) (m : Memory) (party : ℕ) (addresses d now : List ℕ) (i : ℕ) : Type 0 where
   pub within : i ≤ length addresses
-  pub answers : now ≡ sets d 0 (form (list-words t m (take i addresses)))
+  pub answers : now ≡ sets d 0 (form (list-words t m party (take i addresses)))
 
-module _ {form : List ℕ → List ℕ} {width : ℕ} (f : Form form width) (t : Settings) (m : Memory) (addresses d : List ℕ) where
-  pub listing-none : Listing form t m addresses d d 0
+module _ {form : List ℕ → List ℕ} {width : ℕ} (f : Form form width) (t : Settings) (m : Memory) (party : ℕ) (addresses d : List ℕ) where
+  pub listing-none : Listing form t m party addresses d d 0
   unfolding list-words
   listing-none = record { within = omega arith; answers = ap (sets d 0) (sym (f .none)) }
 
-  module _ {now : List ℕ} {i : ℕ} (l : Listing form t m addresses d now i) where
+  module _ {now : List ℕ} {i : ℕ} (l : Listing form t m party addresses d now i) where
     -- what is written, and what comes next
     abbrev so-far : List ℕ
-    so-far = list-words t m (take i addresses)
+    so-far = list-words t m party (take i addresses)
 
     abbrev fresh : List ℕ
-    fresh = answer-words (lookup t m (getD addresses i 0))
+    fresh = answer-words (lookup t m party (getD addresses i 0))
 
     pub listing-size : length now ≡ length d
     listing-size = ap length (l .answers) ∙ length-sets d 0 (form so-far)
 
     reach : length (form so-far) ≡ width * (4 * i)
-    reach = f .size so-far ∙ rw (list-size t m (take i addresses), length-take-le i addresses (l .within))
+    reach = f .size so-far ∙ rw (list-size t m party (take i addresses), length-take-le i addresses (l .within))
 
     pub listing-more : i < length addresses → (place : ℕ) → place ≡ width * (4 * i) → {next : List ℕ}
-        → next ≡ sets now place (form fresh) → Listing form t m addresses d next (i + 1)
+        → next ≡ sets now place (form fresh) → Listing form t m party addresses d next (i + 1)
     listing-more h place at e = record {
       within = omega arith;
       answers =
           e
-          ∙ rw (at ∙ sym reach, l .answers, list-more t m addresses i h, f .append so-far fresh)
+          ∙ rw (at ∙ sym reach, l .answers, list-more t m party addresses i h, f .append so-far fresh)
           (rw zero-add at (sets-append d 0 (form so-far) (form fresh)));
     }
 
-    pub listing-all : length addresses ≤ i → length d ≡ width * (4 * length addresses) → now ≡ form (list-words t m addresses)
+    pub listing-all : length addresses ≤ i → length d ≡ width * (4 * length addresses) → now ≡ form (list-words t m party addresses)
     listing-all h full =
         l .answers
         ∙ rw (take-all i addresses h)
-        (sets-all d (form (list-words t m addresses)) (f .size (list-words t m addresses) ∙ rw (list-size t m addresses, full)))
+        (sets-all d (form (list-words t m party addresses)) (f .size (list-words t m party addresses) ∙ rw (list-size t m party addresses, full)))

@@ -24,37 +24,56 @@ use vectors::vector_of;
 
 // The answer to an address whose claimed lengths are the set bits of `claimed`: the place in which
 // the search of them ends, or else the default.
-pub fn answer_in_words(settings: Settings, slots: &[u32], address: u32, claimed: u32) -> Answer
+pub fn answer_in_words(
+    settings: Settings,
+    slots: &[u32],
+    party: u32,
+    address: u32,
+    claimed: u32,
+) -> Answer
     requires { ⌜ in-range settings ≡ true ⌝ }
     requires { ⌜ Slots settings (now slots) ⌝ }
-    ensures { λ r. ⌜ r ≡ place-answer settings (now (slots .entry)) (length (set-bits claimed)) (search settings (now (slots .entry)) address 0 (set-bits claimed)) ⌝ }
+    requires { ⌜ party ≤ 1 ⌝ }
+    ensures { λ r. ⌜ r ≡ place-answer settings (now (slots .entry)) party (length (set-bits claimed)) (search settings (now (slots .entry)) party address 0 (set-bits claimed)) ⌝ }
 {
-    let place = search_buckets(settings, slots, address, claimed);
+    let place = search_buckets(settings, slots, party, address, claimed);
     match place {
         Place::At {
             slot,
             length,
             probes,
-        } => answer_route(mark_at(slots, slot), length, probes),
-        Place::Absent(_) => answer_default(default_mark(settings, slots), u32::count_ones(claimed)),
+        } => answer_route(party, mark_at(slots, slot), length, probes),
+        Place::Absent(_) => answer_default(
+            party,
+            default_mark(settings, slots, party),
+            u32::count_ones(claimed),
+        ),
     }
 }
 
 // The same from slots that are lent as bytes.
-pub fn answer_in_bytes(settings: Settings, slots: &[u8], address: u32, claimed: u32) -> Answer
+pub fn answer_in_bytes(
+    settings: Settings,
+    slots: &[u8],
+    party: u32,
+    address: u32,
+    claimed: u32,
+) -> Answer
     requires { ⌜ in-range settings ≡ true ⌝ }
     requires { ⌜ Slots settings (words (now slots)) ⌝ }
-    ensures { λ r. ⌜ r ≡ place-answer settings (words (now (slots .entry))) (length (set-bits claimed)) (search settings (words (now (slots .entry))) address 0 (set-bits claimed)) ⌝ }
+    requires { ⌜ party ≤ 1 ⌝ }
+    ensures { λ r. ⌜ r ≡ place-answer settings (words (now (slots .entry))) party (length (set-bits claimed)) (search settings (words (now (slots .entry))) party address 0 (set-bits claimed)) ⌝ }
 {
-    let place = search_bytes(settings, slots, address, claimed);
+    let place = search_bytes(settings, slots, party, address, claimed);
     match place {
         Place::At {
             slot,
             length,
             probes,
-        } => answer_route(c_words::mark_at(slots, slot), length, probes),
+        } => answer_route(party, c_words::mark_at(slots, slot), length, probes),
         Place::Absent(_) => answer_default(
-            c_words::default_mark(settings, slots),
+            party,
+            c_words::default_mark(settings, slots, party),
             u32::count_ones(claimed),
         ),
     }
@@ -88,6 +107,7 @@ pub fn list_in_words(
     d: &[u8],
     counters: &[u8],
     slots: &[u32],
+    party: u32,
     addresses: &[u32],
     results: &mut [u32],
 )
@@ -95,14 +115,15 @@ pub fn list_in_words(
     requires { ⌜ now d ≡ settings .d ⌝ }
     requires { ⌜ Counters settings (now counters) ⌝ }
     requires { ⌜ Slots settings (now slots) ⌝ }
+    requires { ⌜ party ≤ 1 ⌝ }
     requires { ⌜ length (now results) ≡ 4 * length (now addresses) ⌝ }
-    ensures { λ _. ⌜ now (results .exit) ≡ list-words settings (lent (now (counters .entry)) (now (slots .entry))) (now (addresses .entry)) ⌝ }
+    ensures { λ _. ⌜ now (results .exit) ≡ list-words settings (lent (now (counters .entry)) (now (slots .entry))) party (now (addresses .entry)) ⌝ }
 {
     let mut i = 0;
     while i < addresses.len() {
         let address = addresses[i];
         let claimed = vector_of(settings, d, counters, address);
-        let answer = answer_in_words(settings, slots, address, claimed);
+        let answer = answer_in_words(settings, slots, party, address, claimed);
         put_words(results, 4 * i, answer);
         i += 1;
     }
@@ -114,6 +135,7 @@ pub fn list_in_bytes(
     d: &[u8],
     counters: &[u8],
     slots: &[u8],
+    party: u32,
     addresses: &[u8],
     results: &mut [u8],
 )
@@ -121,16 +143,17 @@ pub fn list_in_bytes(
     requires { ⌜ now d ≡ settings .d ⌝ }
     requires { ⌜ Counters settings (now counters) ⌝ }
     requires { ⌜ Slots settings (words (now slots)) ⌝ }
+    requires { ⌜ party ≤ 1 ⌝ }
     requires { ⌜ length (now addresses) % 4 ≡ 0 ⌝ }
     requires { ⌜ length (now results) ≡ 4 * length (now addresses) ⌝ }
-    ensures { λ _. ⌜ now (results .exit) ≡ bytes-of (list-words settings (lent (now (counters .entry)) (words (now (slots .entry)))) (words (now (addresses .entry)))) ⌝ }
+    ensures { λ _. ⌜ now (results .exit) ≡ bytes-of (list-words settings (lent (now (counters .entry)) (words (now (slots .entry)))) party (words (now (addresses .entry)))) ⌝ }
 {
     let count = word_count(addresses);
     let mut i = 0;
     while i < count {
         let address = word_at(addresses, i);
         let claimed = vector_of(settings, d, counters, address);
-        let answer = answer_in_bytes(settings, slots, address, claimed);
+        let answer = answer_in_bytes(settings, slots, party, address, claimed);
         put_bytes(results, 16 * i, answer);
         i += 1;
     }

@@ -25,21 +25,21 @@ use Rattle.message_calls.specs.Walks.{task-call, hop-fits, part-calls, b
 use Rattle.message_calls.proofs.Tallies.{few-none, few-more, few-within, walked-none, walked-next}
 
 -- what comes after the part at hand
-unfoldable pub later : (message : List ℕ) (announced : Prefixes) (hop : ℕ) → Task → List Call
-later message announced hop Withdraw = part-calls (Add hop) message announced
-later message announced hop (Add place) = []
+unfoldable pub later : (party : ℕ) (message : List ℕ) (announced : Prefixes) (hop : ℕ) → Task → List Call
+later party message announced hop Withdraw = part-calls party (Add hop) message announced
+later party message announced hop (Add place) = []
 
-pub record Going (t : Settings) (message : List ℕ) (withdrawn announced : Prefixes) (hop : ℕ) (m : Memory) (task : Task) (rest : Prefixes) (counts : Counts) (now : Memory) : Type 0 where
+pub record Going (t : Settings) (party : ℕ) (message : List ℕ) (withdrawn announced : Prefixes) (hop : ℕ) (m : Memory) (task : Task) (rest : Prefixes) (counts : Counts) (now : Memory) : Type 0 where
   pub lies : rest .at ≤ rest .end
   pub inside : rest .end ≤ length message
   pub fits : prefixes-fit message (rest .at) (rest .end) ≡ true
   pub few : Few counts (rest .at)
   pub hop-good : hop-fits task ≡ true
   pub next : task ≡ Withdraw → rest .end < announced .at
-  pub same : walked t now counts (part-calls task message rest ++ later message announced hop task) ≡ walked t m none-counted (both-calls message withdrawn announced hop)
+  pub same : walked t now counts (part-calls party task message rest ++ later party message announced hop task) ≡ walked t m none-counted (both-calls party message withdrawn announced hop)
 
-module _ {t : Settings} {message : List ℕ} {withdrawn announced : Prefixes} {hop : ℕ} {m : Memory} (apart : Apart message withdrawn announced) where
-  pub goes : Going t message withdrawn announced hop m Withdraw withdrawn none-counted m
+module _ {t : Settings} {party : ℕ} {message : List ℕ} {withdrawn announced : Prefixes} {hop : ℕ} {m : Memory} (apart : Apart message withdrawn announced) where
+  pub goes : Going t party message withdrawn announced hop m Withdraw withdrawn none-counted m
   unfolding hop-fits later both-calls
   goes = record {
     lies = apart .withdrawn-lies;
@@ -51,7 +51,7 @@ module _ {t : Settings} {message : List ℕ} {withdrawn announced : Prefixes} {h
     same = refl;
   }
 
-  module _ {task : Task} {rest : Prefixes} {counts : Counts} {counters slots : List ℕ} (g : Going t message withdrawn announced hop m task rest counts (lent counters slots)) where
+  module _ {task : Task} {rest : Prefixes} {counts : Counts} {counters slots : List ℕ} (g : Going t party message withdrawn announced hop m task rest counts (lent counters slots)) where
     -- ---- One prefix more
 
     module _ {p L : ℕ} {after : Prefixes} (moved : Moved message rest p L after) where
@@ -66,14 +66,14 @@ module _ {t : Settings} {message : List ℕ} {withdrawn announced : Prefixes} {h
           let more = moved .more in
           rw (moved .now-at) (omega (arith, after-prefix-later message (rest .at), g .inside))
 
-      pub goes-on : {number : ℕ} {counters' slots' : List ℕ} → act t (task-call task p L) (lent counters slots) ≡ left number counters' slots'
-          → {next : Counts} → next ≡ counted counts number → Going t message withdrawn announced hop m task after next (lent counters' slots')
+      pub goes-on : {number : ℕ} {counters' slots' : List ℕ} → act t (task-call party task p L) (lent counters slots) ≡ left number counters' slots'
+          → {next : Counts} → next ≡ counted counts number → Going t party message withdrawn announced hop m task after next (lent counters' slots')
       unfolding part-calls prefix-fits
       goes-on {number} {counters'} {slots'} called is =
           let q = prefix-from message (rest .at) in
           let more = moved .more in
-          let left-over = part-calls task message (record { at = after-prefix message (rest .at); end = rest .end }) ++ later message announced hop task in
-          let step : act t (task-call task (q .prefix) (q .length)) (lent counters slots) ≡ left number counters' slots' = rw (moved .length, moved .prefix) at called in
+          let left-over = part-calls party task message (record { at = after-prefix message (rest .at); end = rest .end }) ++ later party message announced hop task in
+          let step : act t (task-call party task (q .prefix) (q .length)) (lent counters slots) ≡ left number counters' slots' = rw (moved .length, moved .prefix) at called in
           rw (moved .now-at, is) (record {
             lies = leb-true _ _ (both (leb (byte message (rest .at)) 32) _ (moved .fits) .1);
             inside = g .inside;
@@ -84,14 +84,14 @@ module _ {t : Settings} {message : List ℕ} {withdrawn announced : Prefixes} {h
             same =
                 sym (ap (λ u. walked t (u .memory) (counted counts (u .refusal)) left-over) step)
                 ∙ sym (walked-next t (lent counters slots) counts _ _)
-                ∙ sym (ap (λ qs. walked t (lent counters slots) counts (map (λ q. task-call task (q .prefix) (q .length)) qs ++ later message announced hop task)) (prefixes-next message (rest .at) (rest .end) more))
+                ∙ sym (ap (λ qs. walked t (lent counters slots) counts (map (λ q. task-call party task (q .prefix) (q .length)) qs ++ later party message announced hop task)) (prefixes-next message (rest .at) (rest .end) more))
                 ∙ g .same;
           })
 
     -- ---- The end of a part
 
     module _ (ended : rest .end ≤ rest .at) where
-      nothing-left : part-calls task message rest ≡ []
+      nothing-left : part-calls party task message rest ≡ []
       unfolding part-calls
       nothing-left = rw (prefixes-none message (rest .at) (rest .end) ended)
 
@@ -100,7 +100,7 @@ module _ {t : Settings} {message : List ℕ} {withdrawn announced : Prefixes} {h
           let before = g .next is in
           omega (arith, g .lies)
 
-      pub turns : task ≡ Withdraw → hop ≤ 65535 → Going t message withdrawn announced hop m (Add hop) announced counts (lent counters slots)
+      pub turns : task ≡ Withdraw → hop ≤ 65535 → Going t party message withdrawn announced hop m (Add hop) announced counts (lent counters slots)
       unfolding hop-fits later
       turns is low =
           let before = g .next is in
@@ -114,7 +114,7 @@ module _ {t : Settings} {message : List ℕ} {withdrawn announced : Prefixes} {h
             same = rw append-nil (rw (nothing-left, is) at (g .same));
           }
 
-      pub all-done : {place : ℕ} → task ≡ Add place → walked t m none-counted (both-calls message withdrawn announced hop) ≡ walked-to counts counters slots
+      pub all-done : {place : ℕ} → task ≡ Add place → walked t m none-counted (both-calls party message withdrawn announced hop) ≡ walked-to counts counters slots
       unfolding later
       all-done is = sym (rw (nothing-left, is) at (g .same)) ∙ walked-none t (lent counters slots) counts
 
@@ -129,12 +129,13 @@ module _ {t : Settings} {message : List ℕ} {withdrawn announced : Prefixes} {h
 
 -- a prefix that was read is a route, which the calls need not check again
 module _ {t : Settings} {message : List ℕ} {rest : Prefixes} {p L : ℕ} {after : Prefixes} (moved : Moved message rest p L after) where
-  pub checked : in-range t ≡ true → {counters slots : List ℕ} → length counters ≡ counters-size t → length slots ≡ slots-size t → Checked t counters slots p L
+  pub checked : in-range t ≡ true → {counters slots : List ℕ} → length counters ≡ counters-size t → length slots ≡ slots-size t → {party : ℕ} → party ≤ 1 → Checked t counters slots party p L
   unfolding prefix-from prefix-fits
-  checked range counters-fit slots-fit = record {
+  checked range counters-fit slots-fit known = record {
     range = range;
     counters-fit = counters-fit;
     slots-fit = slots-fit;
+    known = known;
     high = rw (moved .length) (leb-true _ _ (both (leb (byte message (rest .at)) 32) _ (moved .fits) .0));
     tight = rw (moved .length, moved .prefix) (prefix-again _ (byte message (rest .at)));
   }

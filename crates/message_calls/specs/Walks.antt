@@ -21,10 +21,10 @@ use Rattle.message_calls.specs.declared.Task.the-variants as task
 
 -- ---- Tasks
 
--- the single call that a task means for a prefix
-unfoldable pub task-call : Task → (p L : ℕ) → Call
-task-call task.Withdraw p L = Withdraw p L
-task-call (task.Add hop) p L = Add p L hop
+-- the single call of a party that a task means for a prefix
+unfoldable pub task-call : (party : ℕ) → Task → (p L : ℕ) → Call
+task-call party task.Withdraw p L = Withdraw party p L
+task-call party (task.Add hop) p L = Add party p L hop
 
 -- a hop to add with is one that add takes
 unfoldable pub hop-fits : Task → Bool
@@ -32,13 +32,13 @@ hop-fits task.Withdraw = true
 hop-fits (task.Add hop) = leb hop 65535
 
 -- the single calls of a part, in its order
-unfoldable pub part-calls : Task → (message : List ℕ) → Prefixes → List Call
-part-calls task message part = map (λ q. task-call task (q .prefix) (q .length)) (prefixes message (part .at) (part .end))
+unfoldable pub part-calls : (party : ℕ) → Task → (message : List ℕ) → Prefixes → List Call
+part-calls party task message part = map (λ q. task-call party task (q .prefix) (q .length)) (prefixes message (part .at) (part .end))
 
 -- those of both parts: each withdrawn prefix, and then each announced one with the hop
-unfoldable pub both-calls : (message : List ℕ) (withdrawn announced : Prefixes) (hop : ℕ) → List Call
-both-calls message withdrawn announced hop =
-    part-calls task.Withdraw message withdrawn ++ part-calls (task.Add hop) message announced
+unfoldable pub both-calls : (party : ℕ) (message : List ℕ) (withdrawn announced : Prefixes) (hop : ℕ) → List Call
+both-calls party message withdrawn announced hop =
+    part-calls party task.Withdraw message withdrawn ++ part-calls party (task.Add hop) message announced
 
 -- ---- Counts
 
@@ -112,12 +112,12 @@ pub record Updated : Type 0 where
   pub refusal : ℕ
   pub walk : Walked
 
--- a message past the checks of the memory
-unfoldable pub update-done : Settings → Memory → (message hops : List ℕ) → Updated
-update-done t m message hops =
+-- a message past the checks of the memory and of the party
+unfoldable pub update-done : Settings → Memory → (party : ℕ) (message hops : List ℕ) → Updated
+update-done t m party message hops =
     let refusal = update-refusal message hops in
     cond (eqb refusal 0)
-    (record { refusal = 0; walk = walked t m none-counted (message-calls message hops) })
+    (record { refusal = 0; walk = walked t m none-counted (message-calls party message hops) })
     (record { refusal = refusal; walk = record { counts = none-counted; memory = m } })
 
 -- what an answer means: 12 and 13 are the numbers of the two faults, after which nothing is counted

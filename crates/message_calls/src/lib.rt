@@ -1,6 +1,6 @@
 // A neighbour's message, read and applied: every check is passed before the first byte of the table is
 // written. apply_message requires nothing: bad input gets its number and changes nothing. apply_update is for
-// callers that have checked settings and sizes.
+// callers that have checked settings, sizes and party.
 ghost use Prim.Native.Nat.{_≤_};
 ghost use mathlib.Core.Path.{_≡_};
 ghost use mathlib.Core.Bool.{true};
@@ -19,7 +19,7 @@ use message_readers::Message;
 use message_readers::hop_due;
 use message_readers::read_message;
 use rules::Settings;
-use settings::refuse_memory;
+use settings::refuse_party;
 use updates::add_announced;
 use updates::withdraw_checked;
 
@@ -107,22 +107,23 @@ enum Task {
     Add(u32),
 }
 
-// Makes the single call of a task for one prefix.
+// Makes the party's single call of a task for one prefix.
 fn apply_task(
     settings: Settings,
     counters: &mut [u8],
     slots: &mut [u32],
+    party: u32,
     task: Task,
     prefix: u32,
     length: u32,
 ) -> u32
-    requires { ⌜ Checked settings (now counters) (now slots) prefix length ⌝ }
+    requires { ⌜ Checked settings (now counters) (now slots) party prefix length ⌝ }
     requires { ⌜ hop-fits task ≡ true ⌝ }
-    ensures { λ r. ⌜ act settings (task-call task prefix length) (lent (now (counters .entry)) (now (slots .entry))) ≡ left r (now (counters .exit)) (now (slots .exit)) ⌝ }
+    ensures { λ r. ⌜ act settings (task-call party task prefix length) (lent (now (counters .entry)) (now (slots .entry))) ≡ left r (now (counters .exit)) (now (slots .exit)) ⌝ }
 {
     match task {
-        Task::Withdraw => withdraw_checked(settings, counters, slots, prefix, length),
-        Task::Add(hop) => add_announced(settings, counters, slots, prefix, length, hop),
+        Task::Withdraw => withdraw_checked(settings, counters, slots, party, prefix, length),
+        Task::Add(hop) => add_announced(settings, counters, slots, party, prefix, length, hop),
     }
 }
 
@@ -131,6 +132,7 @@ fn apply_parts(
     settings: Settings,
     counters: &mut [u8],
     slots: &mut [u32],
+    party: u32,
     message: &[u8],
     withdrawn: Prefixes,
     announced: Prefixes,
@@ -139,9 +141,10 @@ fn apply_parts(
     requires { ⌜ in-range settings ≡ true ⌝ }
     requires { ⌜ Counters settings (now counters) ⌝ }
     requires { ⌜ Slots settings (now slots) ⌝ }
+    requires { ⌜ party ≤ 1 ⌝ }
     requires { ⌜ Apart (now message) withdrawn announced ⌝ }
     requires { ⌜ hop ≤ 65535 ⌝ }
-    ensures { λ r. ⌜ walked settings (lent (now (counters .entry)) (now (slots .entry))) none-counted (both-calls (now (message .entry)) withdrawn announced hop) ≡ walked-to r (now (counters .exit)) (now (slots .exit)) ⌝ }
+    ensures { λ r. ⌜ walked settings (lent (now (counters .entry)) (now (slots .entry))) none-counted (both-calls party (now (message .entry)) withdrawn announced hop) ≡ walked-to r (now (counters .exit)) (now (slots .exit)) ⌝ }
 {
     let mut task = Task::Withdraw;
     let mut rest = withdrawn;
@@ -153,7 +156,7 @@ fn apply_parts(
                 length,
                 rest: after,
             } => {
-                let number = apply_task(settings, counters, slots, task, prefix, length);
+                let number = apply_task(settings, counters, slots, party, task, prefix, length);
                 counts = count(counts, number);
                 rest = after;
             }
@@ -180,18 +183,20 @@ pub enum Applied {
     Fault,
 }
 
-// Applies one message to a table whose settings and sizes are good.
+// Applies one message for a party to a table whose settings and sizes are good.
 pub fn apply_update(
     settings: Settings,
     counters: &mut [u8],
     slots: &mut [u32],
+    party: u32,
     message: &[u8],
     hops: &[u32],
 ) -> Applied
     requires { ⌜ in-range settings ≡ true ⌝ }
     requires { ⌜ Counters settings (now counters) ⌝ }
     requires { ⌜ Slots settings (now slots) ⌝ }
-    ensures { λ r. ⌜ update-done settings (lent (now (counters .entry)) (now (slots .entry))) (now (message .entry)) (now (hops .entry)) ≡ applied-to r (now (counters .exit)) (now (slots .exit)) ⌝ }
+    requires { ⌜ party ≤ 1 ⌝ }
+    ensures { λ r. ⌜ update-done settings (lent (now (counters .entry)) (now (slots .entry))) party (now (message .entry)) (now (hops .entry)) ≡ applied-to r (now (counters .exit)) (now (slots .exit)) ⌝ }
 {
     let Message::Good {
         withdrawn_to,
@@ -216,6 +221,7 @@ pub fn apply_update(
         settings,
         counters,
         slots,
+        party,
         message,
         withdrawn,
         announced,
@@ -223,22 +229,23 @@ pub fn apply_update(
     ))
 }
 
-// Applies one message: its withdrawn routes in order, then its announced ones, whose hop is the lowest place
-// of NEXT_HOP in the list. A route that the table refuses is counted and skipped.
+// Applies one message for a party: its withdrawn routes in order, then its announced ones, whose hop is the
+// lowest place of NEXT_HOP in the list. A route that the table refuses is counted and skipped.
 pub fn apply_message(
     settings: Settings,
     counters: &mut [u8],
     slots: &mut [u32],
+    party: u32,
     message: &[u8],
     hops: &[u32],
 ) -> Report
-    ensures { λ r. ⌜ apply-message settings (lent (now (counters .entry)) (now (slots .entry))) (now (message .entry)) (now (hops .entry)) ≡ reported r (now (counters .exit)) (now (slots .exit)) ⌝ }
+    ensures { λ r. ⌜ apply-message settings (lent (now (counters .entry)) (now (slots .entry))) party (now (message .entry)) (now (hops .entry)) ≡ reported r (now (counters .exit)) (now (slots .exit)) ⌝ }
 {
-    let refusal = refuse_memory(settings, counters, slots);
+    let refusal = refuse_party(settings, counters, slots, party);
     if refusal != 0 {
         return report_refused(refusal);
     }
-    match apply_update(settings, counters, slots, message, hops) {
+    match apply_update(settings, counters, slots, party, message, hops) {
         Applied::Good(counts) => report_counts(counts),
         Applied::Hopless => report_refused(13),
         Applied::Fault => report_refused(12),

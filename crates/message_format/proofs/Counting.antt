@@ -16,7 +16,7 @@ use Rattle.rules.specs.Table.{Memory, refuse}
 use Rattle.rules.specs.Calls.{run}
 use Rattle.rules.proofs.Calls.{answers-length, counted-all}
 use Rattle.rules.proofs.Members.{both, within-true}
-use Rattle.rules.proofs.Refusals.{passed, memory-passed}
+use Rattle.rules.proofs.Refusals.{passed, party-passed}
 use Rattle.message_format.specs.Format.{after-prefix, prefixes-fit, prefixes, header-good, withdrawn-from, withdrawn-to, attributes-from, announced-from, attributes-good, parts-fit, withdrawn-prefixes, announced-prefixes, contents-good, well-formed, announces}
 use Rattle.message_format.specs.Reading.{hop-in, is-hop, update-refusal, message-refusal, withdrawals, announcements, message-calls, counts, refused-message, apply-message}
 use Rattle.message_format.proofs.Walks.{by-steps, after-prefix-later, prefixes-none, prefixes-next}
@@ -84,16 +84,16 @@ update-passed message hops e =
     let twelve = passed (not (well-formed message)) 11 _ e in
     record { good = not-false _ (twelve .0); hop = passed _ 12 0 (twelve .1) .0 }
 
-pub message-passed : (t : Settings) (m : Memory) (message hops : List ℕ) → message-refusal t m message hops ≡ 0 → Passed message hops
+pub message-passed : (t : Settings) (m : Memory) (party : ℕ) (message hops : List ℕ) → message-refusal t m party message hops ≡ 0 → Passed message hops
 unfolding message-refusal
-message-passed t m message hops e = update-passed message hops (memory-passed t (m .counters) (m .slots) _ e .1)
+message-passed t m party message hops e = update-passed message hops (party-passed t (m .counters) (m .slots) party _ e .1)
 
 -- ---- A message's single calls
 
 -- each prefix is one of them, and without a hop no prefix is announced
-module _ (message hops : List ℕ) where
+module _ (party : ℕ) (message hops : List ℕ) where
   one-each : (hop : Option ℕ) → (hop ≡ none → announced-prefixes message ≡ [])
-      → length (withdrawals (withdrawn-prefixes message) ++ announcements hop (announced-prefixes message)) ≡ length (withdrawn-prefixes message) + length (announced-prefixes message)
+      → length (withdrawals party (withdrawn-prefixes message) ++ announcements party hop (announced-prefixes message)) ≡ length (withdrawn-prefixes message) + length (announced-prefixes message)
   unfolding withdrawals announcements
   one-each none nothing = rw (nothing refl, append-nil, length-map) (omega arith)
   one-each (some hop) nothing = simp (length-append, length-map)
@@ -106,43 +106,43 @@ module _ (message hops : List ℕ) where
         (ltb-false _ _ (sym (and-true (announces message)) ∙ (rw missing at (passed .hop))))
 
     -- A message that is not refused has a call for each of its withdrawn and announced prefixes.
-    pub calls-total : length (message-calls message hops) ≡ length (withdrawn-prefixes message) + length (announced-prefixes message)
+    pub calls-total : length (message-calls party message hops) ≡ length (withdrawn-prefixes message) + length (announced-prefixes message)
     unfolding message-calls
     calls-total = one-each (hop-in message hops) nothing-announced
 
 -- They are no more than 4,096.
-pub calls-few : (message hops : List ℕ) → update-refusal message hops ≡ 0 → length (message-calls message hops) ≤ 4096
-calls-few message hops e =
+pub calls-few : (party : ℕ) (message hops : List ℕ) → update-refusal message hops ≡ 0 → length (message-calls party message hops) ≤ 4096
+calls-few party message hops e =
     let passed = update-passed message hops e in
-    omega (arith, calls-total message hops passed, routes-few message (passed .good))
+    omega (arith, calls-total party message hops passed, routes-few message (passed .good))
 
-module _ (t : Settings) (m : Memory) (message hops : List ℕ) where
+module _ (t : Settings) (m : Memory) (party : ℕ) (message hops : List ℕ) where
   -- An accepted message is given the counts of its calls, and leaves the memory as they do.
-  pub message-accepted : message-refusal t m message hops ≡ 0 → apply-message t m message hops ≡ counts (run t m (message-calls message hops))
+  pub message-accepted : message-refusal t m party message hops ≡ 0 → apply-message t m party message hops ≡ counts (run t m (message-calls party message hops))
   unfolding apply-message
   message-accepted e = rw (eq-eqb _ 0 e)
 
   -- A refused one is given its number, and counts nothing.
-  pub message-refused : message-refusal t m message hops ≢ 0 → apply-message t m message hops ≡ refused-message (message-refusal t m message hops) m
+  pub message-refused : message-refusal t m party message hops ≢ 0 → apply-message t m party message hops ≡ refused-message (message-refusal t m party message hops) m
   unfolding apply-message
   message-refused ne = rw (ne-eqb _ 0 ne)
 
   -- Accepted and refused together are the message's withdrawn and announced prefixes.
-  pub routes-total : message-refusal t m message hops ≡ 0
-      → let r = apply-message t m message hops .report in r .accepted + r .refused ≡ length (withdrawn-prefixes message) + length (announced-prefixes message)
+  pub routes-total : message-refusal t m party message hops ≡ 0
+      → let r = apply-message t m party message hops .report in r .accepted + r .refused ≡ length (withdrawn-prefixes message) + length (announced-prefixes message)
   unfolding counts run
   routes-total e =
       rw (message-accepted e)
-      (counted-all _ ∙ answers-length _ _ m (message-calls message hops) ∙ calls-total message hops (message-passed t m message hops e))
+      (counted-all _ ∙ answers-length _ _ m (message-calls party message hops) ∙ calls-total party message hops (message-passed t m party message hops e))
 
   -- Whatever the message, both counts are below 4,096.
-  pub counts-fit : let r = apply-message t m message hops .report in (r .accepted < 2 ^ 12) × (r .refused < 2 ^ 12)
+  pub counts-fit : let r = apply-message t m party message hops .report in (r .accepted < 2 ^ 12) × (r .refused < 2 ^ 12)
   unfolding refused-message
-  counts-fit = go (eqb (message-refusal t m message hops) 0) refl
+  counts-fit = go (eqb (message-refusal t m party message hops) 0) refl
     where
-      go : (b : Bool) → eqb (message-refusal t m message hops) 0 ≡ b → let r = apply-message t m message hops .report in (r .accepted < 2 ^ 12) × (r .refused < 2 ^ 12)
+      go : (b : Bool) → eqb (message-refusal t m party message hops) 0 ≡ b → let r = apply-message t m party message hops .report in (r .accepted < 2 ^ 12) × (r .refused < 2 ^ 12)
       go true e =
           let none = eqb-true _ _ e in
-          let few = routes-few message (message-passed t m message hops none .good) in
+          let few = routes-few message (message-passed t m party message hops none .good) in
           (omega (arith, routes-total none), omega (arith, routes-total none))
       go false e = rw (message-refused (eqb-false _ _ e)) (omega arith, omega arith)

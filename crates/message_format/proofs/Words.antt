@@ -56,12 +56,12 @@ module _ (bytes : List ℕ) (small : areBytes bytes ≡ true) where
       (λ at inside rest. rw (prefixes-next bytes at end inside, sized (prefix-from bytes at) (prefix-small at)) rest)
 
 -- A message of bytes withdraws and announces prefixes of 32 bits.
-pub message-words : (message hops : List ℕ) → areBytes message ≡ true → all-word-sized (message-calls message hops) ≡ true
+pub message-words : (party : ℕ) (message hops : List ℕ) → areBytes message ≡ true → all-word-sized (message-calls party message hops) ≡ true
 unfolding message-calls withdrawals announcements withdrawn-prefixes announced-prefixes word-sized all-word-sized
-message-words message hops bytes = all-then (withdrawals (withdrawn-prefixes message)) _
-    (prefixes-small message bytes (λ q. Withdraw (q .prefix) (q .length)) (λ q small. lt-ltb _ _ small) (withdrawn-to message) withdrawn-from)
+message-words party message hops bytes = all-then (withdrawals party (withdrawn-prefixes message)) _
+    (prefixes-small message bytes (λ q. Withdraw party (q .prefix) (q .length)) (λ q small. lt-ltb _ _ small) (withdrawn-to message) withdrawn-from)
     (go (hop-in message hops))
   where
-    go : (hop : Option ℕ) → all-word-sized (announcements hop (announced-prefixes message)) ≡ true
+    go : (hop : Option ℕ) → all-word-sized (announcements party hop (announced-prefixes message)) ≡ true
     go none = refl
-    go (some hop) = prefixes-small message bytes (λ q. Add (q .prefix) (q .length) hop) (λ q small. lt-ltb _ _ small) (length message) (announced-from message)
+    go (some hop) = prefixes-small message bytes (λ q. Add party (q .prefix) (q .length) hop) (λ q small. lt-ltb _ _ small) (length message) (announced-from message)

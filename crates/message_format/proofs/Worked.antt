@@ -56,7 +56,7 @@ hops = ip 10 9 9 2 ∷ ip 10 9 9 1 ∷ ip 10 9 9 1 ∷ []
 
 -- a table of settings T that holds 10.1/16 with hop 9
 abbrev held : Memory
-held = add T (empty T) (ip 10 1 0 0) 16 9 .memory
+held = add T (empty T) 0 (ip 10 1 0 0) 16 9 .memory
 
 -- one, or none
 abbrev one : Option ℕ → List ℕ
@@ -93,7 +93,7 @@ leaves number accepted refused m = number ∷ accepted ∷ refused ∷ m .counte
 
 -- a message read on the table that holds 10.1/16
 abbrev read-there : List ℕ → List ℕ
-read-there bytes = told (apply-message T held bytes hops)
+read-there bytes = told (apply-message T held 0 bytes hops)
 
 -- it is refused with a number, and nothing is changed
 abbrev refused-there : (number : ℕ) → (bytes : List ℕ) → Case
@@ -163,9 +163,9 @@ whole =
 refusals : List Case
 refusals =
     -- M17: 1 before 2 before 12, and 12 before 13
-    case (told (apply-message (settings 9 4 1 2 1 2 1) (record { counters = sevens 511; slots = sevens 257 }) [] [])) (leaves 1 0 0 (record { counters = sevens 511; slots = sevens 257 }))
-    ∷ case (told (apply-message T (record { counters = sevens 511; slots = sevens 257 }) [] [])) (leaves 2 0 0 (record { counters = sevens 511; slots = sevens 257 }))
-    ∷ case (told (apply-message T held (set sample 18 4) [])) (leaves 12 0 0 held)
+    case (told (apply-message (settings 9 4 1 2 1 2 1) (record { counters = sevens 511; slots = sevens 258 }) 0 [] [])) (leaves 1 0 0 (record { counters = sevens 511; slots = sevens 258 }))
+    ∷ case (told (apply-message T (record { counters = sevens 511; slots = sevens 258 }) 0 [] [])) (leaves 2 0 0 (record { counters = sevens 511; slots = sevens 258 }))
+    ∷ case (told (apply-message T held 0 (set sample 18 4) [])) (leaves 12 0 0 held)
     ∷ all-refused 12
     -- M18: a first or a last byte of the marker that is not all ones
     (set sample 0 254
@@ -226,7 +226,7 @@ refusals =
     -- M32: it is not in the list
     ∷ set sample 39 3
     ∷ [])
-    ++ case (told (apply-message T held sample [])) (leaves 13 0 0 held)
+    ++ case (told (apply-message T held 0 sample [])) (leaves 13 0 0 held)
     ∷ []
 
 -- ---- What a message does
@@ -234,33 +234,33 @@ refusals =
 done : List Case
 done =
     -- M33: the worked message on the table that holds 10.1/16: three single calls, all accepted
-    case (read-there sample) (leaves 0 3 0 (add T (add T (withdraw T held (ip 10 1 0 0) 16 .memory) (ip 192 0 2 0) 24 1 .memory) 0 0 1 .memory))
-    ∷ case (figures (lookup T (apply-message T held sample hops .memory) (ip 192 0 2 7)) ++ figures (lookup T (apply-message T held sample hops .memory) (ip 10 1 2 3))) (finds 1 24 1 ++ finds 1 0 0)
+    case (read-there sample) (leaves 0 3 0 (add T (add T (withdraw T held 0 (ip 10 1 0 0) 16 .memory) 0 (ip 192 0 2 0) 24 1 .memory) 0 0 0 1 .memory))
+    ∷ case (figures (lookup T (apply-message T held 0 sample hops .memory) 0 (ip 192 0 2 7)) ++ figures (lookup T (apply-message T held 0 sample hops .memory) 0 (ip 10 1 2 3))) (finds 1 24 1 ++ finds 1 0 0)
     -- M34: on an empty table: the withdrawal is refused, and counted
-    ∷ case (told (apply-message T (empty T) sample hops)) (leaves 0 2 1 (add T (add T (empty T) (ip 192 0 2 0) 24 1 .memory) 0 0 1 .memory))
+    ∷ case (told (apply-message T (empty T) 0 sample hops)) (leaves 0 2 1 (add T (add T (empty T) 0 (ip 192 0 2 0) 24 1 .memory) 0 0 0 1 .memory))
     -- M35: with flags and lengths written otherwise it says the same
     ∷ case (read-there (message (16 ∷ 10 ∷ 1 ∷ []) (80 ∷ 3 ∷ 0 ∷ 4 ∷ 10 ∷ 9 ∷ 9 ∷ 1 ∷ 207 ∷ 1 ∷ 1 ∷ 0 ∷ []) (24 ∷ 192 ∷ 0 ∷ 2 ∷ 0 ∷ []))) (read-there sample)
     -- M36: bits after the length are cleared before the table is asked: 15 bits of 10.1 withdraw 10/15, and 7 bits of 11 add 10/7
-    ∷ case (told (apply-message T (add T (empty T) (ip 10 0 0 0) 15 9 .memory) (message (15 ∷ 10 ∷ 1 ∷ []) [] []) [])) (leaves 0 1 0 (empty T))
-    ∷ case (read-there (announcing (7 ∷ 11 ∷ []))) (leaves 0 1 0 (add T held (ip 10 0 0 0) 7 1 .memory))
+    ∷ case (told (apply-message T (add T (empty T) 0 (ip 10 0 0 0) 15 9 .memory) 0 (message (15 ∷ 10 ∷ 1 ∷ []) [] []) [])) (leaves 0 1 0 (empty T))
+    ∷ case (read-there (announcing (7 ∷ 11 ∷ []))) (leaves 0 1 0 (add T held 0 (ip 10 0 0 0) 7 1 .memory))
     -- M37: withdrawn routes go first, whatever is announced: the same route in both lists is stored after, and in their order
-    ∷ case (read-there (message (16 ∷ 10 ∷ 1 ∷ 16 ∷ 10 ∷ 1 ∷ []) hop-1 (16 ∷ 10 ∷ 1 ∷ []))) (leaves 0 2 1 (add T (empty T) (ip 10 1 0 0) 16 1 .memory))
+    ∷ case (read-there (message (16 ∷ 10 ∷ 1 ∷ 16 ∷ 10 ∷ 1 ∷ []) hop-1 (16 ∷ 10 ∷ 1 ∷ []))) (leaves 0 2 1 (add T (empty T) 0 (ip 10 1 0 0) 16 1 .memory))
     -- M38: 10/8 and 8/8 fill a bucket: 9/8 is refused with 8, skipped and counted, and 192/8 after it is stored
-    ∷ case (read-there (announcing (8 ∷ 10 ∷ 8 ∷ 8 ∷ 8 ∷ 9 ∷ 8 ∷ 192 ∷ []))) (leaves 0 3 1 (add T (add T (add T held (ip 10 0 0 0) 8 1 .memory) (ip 8 0 0 0) 8 1 .memory) (ip 192 0 0 0) 8 1 .memory))
+    ∷ case (read-there (announcing (8 ∷ 10 ∷ 8 ∷ 8 ∷ 8 ∷ 9 ∷ 8 ∷ 192 ∷ []))) (leaves 0 3 1 (add T (add T (add T held 0 (ip 10 0 0 0) 8 1 .memory) 0 (ip 8 0 0 0) 8 1 .memory) 0 (ip 192 0 0 0) 8 1 .memory))
     -- M39: a route that is stored gets the new hop; one that is announced twice is accepted twice
-    ∷ case (read-there (announcing (16 ∷ 10 ∷ 1 ∷ 16 ∷ 10 ∷ 1 ∷ []))) (leaves 0 2 0 (add T held (ip 10 1 0 0) 16 1 .memory))
+    ∷ case (read-there (announcing (16 ∷ 10 ∷ 1 ∷ 16 ∷ 10 ∷ 1 ∷ []))) (leaves 0 2 0 (add T held 0 (ip 10 1 0 0) 16 1 .memory))
     -- M40: what only withdraws needs no NEXT_HOP, no list, and no place in it
-    ∷ case (told (apply-message T held (message (16 ∷ 10 ∷ 1 ∷ []) [] []) [])) (leaves 0 1 0 (empty T))
-    ∷ case (told (apply-message T held (message (16 ∷ 10 ∷ 1 ∷ []) hop-1 []) [])) (leaves 0 1 0 (empty T))
+    ∷ case (told (apply-message T held 0 (message (16 ∷ 10 ∷ 1 ∷ []) [] []) [])) (leaves 0 1 0 (empty T))
+    ∷ case (told (apply-message T held 0 (message (16 ∷ 10 ∷ 1 ∷ []) hop-1 []) [])) (leaves 0 1 0 (empty T))
     -- M41: 23 bytes that say nothing, and 4,096 that are one attribute, do nothing
     ∷ case (read-there (message [] [] [])) (leaves 0 0 0 held)
     ∷ case (read-there (replicate 16 255 ++ (16 ∷ 0 ∷ 2 ∷ 0 ∷ 0 ∷ 15 ∷ 233 ∷ 80 ∷ 2 ∷ 15 ∷ 229 ∷ replicate 4069 0))) (leaves 0 0 0 held)
     -- M42: the reports of M33, M34 and M31 as one number
-    ∷ case (map (λ r. report-number (r .report)) (apply-message T held sample hops ∷ apply-message T (empty T) sample hops ∷ apply-message T held sample [] ∷ [])) (3 ∷ 4098 ∷ 3659174697238528 ∷ [])
+    ∷ case (map (λ r. report-number (r .report)) (apply-message T held 0 sample hops ∷ apply-message T (empty T) 0 sample hops ∷ apply-message T held 0 sample [] ∷ [])) (3 ∷ 4098 ∷ 3659174697238528 ∷ [])
     -- M50: 127/8, 224/4 and 239.255.255.255/32 are refused with 11, skipped and counted; 10/8 before them and 192/8 after are stored
-    ∷ case (read-there (announcing (8 ∷ 10 ∷ 8 ∷ 127 ∷ 4 ∷ 224 ∷ 32 ∷ 239 ∷ 255 ∷ 255 ∷ 255 ∷ 8 ∷ 192 ∷ []))) (leaves 0 2 3 (add T (add T held (ip 10 0 0 0) 8 1 .memory) (ip 192 0 0 0) 8 1 .memory))
+    ∷ case (read-there (announcing (8 ∷ 10 ∷ 8 ∷ 127 ∷ 4 ∷ 224 ∷ 32 ∷ 239 ∷ 255 ∷ 255 ∷ 255 ∷ 8 ∷ 192 ∷ []))) (leaves 0 2 3 (add T (add T held 0 (ip 10 0 0 0) 8 1 .memory) 0 (ip 192 0 0 0) 8 1 .memory))
     -- M51: 7 bits of 127 are 126/7 and 3 bits of 239 are 224/3, which are stored
-    ∷ case (read-there (announcing (7 ∷ 127 ∷ 3 ∷ 239 ∷ []))) (leaves 0 2 0 (add T (add T held (ip 126 0 0 0) 7 1 .memory) (ip 224 0 0 0) 3 1 .memory))
+    ∷ case (read-there (announcing (7 ∷ 127 ∷ 3 ∷ 239 ∷ []))) (leaves 0 2 0 (add T (add T held 0 (ip 126 0 0 0) 7 1 .memory) 0 (ip 224 0 0 0) 3 1 .memory))
     ∷ []
 
 -- ---- The withdrawal of a route
@@ -279,7 +279,7 @@ routes =
 -- a route is stored, its withdrawal is written, and read: one is accepted, and the table is empty
 abbrev back : Prefix → Case
 back q =
-    case (told (apply-message T (add T (empty T) (q .prefix) (q .length) 7 .memory) (withdrawal (q .prefix) (q .length)) [])) (leaves 0 1 0 (empty T))
+    case (told (apply-message T (add T (empty T) 0 (q .prefix) (q .length) 7 .memory) 0 (withdrawal (q .prefix) (q .length)) [])) (leaves 0 1 0 (empty T))
 
 written-ones : List Case
 written-ones =
@@ -302,6 +302,46 @@ written-ones =
     -- M47: reading a withdrawal withdraws that route
     ∷ map back routes
 
+-- ---- Two parties
+
+-- the table that holds 10.1/16 for party 0, with the same route of party 1, whose hop is 4
+abbrev shared : Memory
+shared = add T held 1 (ip 10 1 0 0) 16 4 .memory
+
+-- the worked message, read for party 1 on that table
+abbrev read-1 : Read
+read-1 = apply-message T shared 1 sample hops
+
+-- memory of the right sizes but for one counter, and for one word of the slots
+abbrev short : Memory
+short = record { counters = sevens 511; slots = sevens 258 }
+
+abbrev one-default : Memory
+one-default = record { counters = sevens 512; slots = sevens 257 }
+
+parties : List Case
+parties =
+    -- M52: what a message withdraws is its party's route: the same route of the other party stays; where only the other has it,
+    -- the withdrawal is refused, and counted
+    case (told (apply-message T shared 1 (message (16 ∷ 10 ∷ 1 ∷ []) [] []) [])) (leaves 0 1 0 held)
+    ∷ case (told (apply-message T shared 0 (message (16 ∷ 10 ∷ 1 ∷ []) [] []) [])) (leaves 0 1 0 (withdraw T shared 0 (ip 10 1 0 0) 16 .memory))
+    ∷ case (told (apply-message T held 1 (message (16 ∷ 10 ∷ 1 ∷ []) [] []) [])) (leaves 0 0 1 held)
+    -- M53: the routes that it announces are its party's: party 1's lookups find them, its default too, and party 0's do not
+    ∷ case (told read-1) (leaves 0 3 0 (add T (add T held 1 (ip 192 0 2 0) 24 1 .memory) 1 0 0 1 .memory))
+    ∷ case (figures (lookup T (read-1 .memory) 1 (ip 192 0 2 7)) ++ figures (lookup T (read-1 .memory) 1 (ip 10 1 2 3))) (finds 1 24 1 ++ finds 1 0 1)
+    ∷ case (figures (lookup T (read-1 .memory) 0 (ip 192 0 2 7)) ++ figures (lookup T (read-1 .memory) 0 (ip 10 1 2 3))) ((0 ∷ 0 ∷ 0 ∷ 0 ∷ 1 ∷ []) ++ finds 9 16 1)
+    -- M54: 10/8 and 8/8 of party 0 fill a bucket: party 1's 10/8 is refused with 8, skipped and counted, and its 192/8 is stored
+    ∷ case (told (apply-message T (add T (add T held 0 (ip 10 0 0 0) 8 7 .memory) 0 (ip 8 0 0 0) 8 7 .memory) 1 (announcing (8 ∷ 10 ∷ 8 ∷ 192 ∷ [])) hops))
+    (leaves 0 1 1 (add T (add T (add T held 0 (ip 10 0 0 0) 8 7 .memory) 0 (ip 8 0 0 0) 8 7 .memory) 1 (ip 192 0 0 0) 8 1 .memory))
+    -- M55: party 2 is refused with 15, which goes before 12 and 13 and after 1 and 2; 2 asks for the words of both defaults
+    ∷ case (told (apply-message T held 2 sample hops)) (leaves 15 0 0 held)
+    ∷ case (told (apply-message T held 2 (set sample 18 4) [])) (leaves 15 0 0 held)
+    ∷ case (told (apply-message T held 2 sample [])) (leaves 15 0 0 held)
+    ∷ case (told (apply-message (settings 9 4 1 2 1 2 1) short 2 [] [])) (leaves 1 0 0 short)
+    ∷ case (told (apply-message T short 2 [] [])) (leaves 2 0 0 short)
+    ∷ case (told (apply-message T one-default 2 [] [])) (leaves 2 0 0 one-default)
+    ∷ []
+
 -- to unfold this is to unfold all that a message computes with but the place of its hop
 unfoldable reading : ℕ
 unfolding byte from-octets two-bytes four-bytes bytes-for octet address-at prefix-from after-prefix prefix-fits some-starts starts prefixes-fit prefixes extended type-of value-from value-size after-attribute attribute-fits attributes-fit next-hops at-most-one attributes-good first-hop next-hop all-ones header-good withdrawn-to attributes-from announced-from parts-fit withdrawn-prefixes announced-prefixes announces message-hop contents-good well-formed is-hop update-refusal message-refusal withdrawals announcements message-calls act each run accepted-of refused-of counts refused-message apply-message report-number octets prefix-bytes withdrawal-size withdrawal writing-refusal write-withdrawal rules-computing
@@ -312,8 +352,8 @@ unfoldable pub computing : ℕ
 unfolding place-in hop-place hop-in reading
 computing = 0
 
-all-come-out : come-out (parts ++ whole ++ refusals ++ done ++ written-ones) ≡ true
-unfolding parts whole refusals done written-ones same-words come-out computing
+all-come-out : come-out (parts ++ whole ++ refusals ++ done ++ written-ones ++ parties) ≡ true
+unfolding parts whole refusals done written-ones parties same-words come-out computing
 all-come-out = refl
 
 -- ---- A long list of next hops
@@ -345,11 +385,11 @@ unfolding hop-in hop-place reading
 far-hop n = far-place n
 
 -- M48: place 65,535 is a hop
-far-taken : told (apply-message T held sample (far 65535)) ≡ leaves 0 3 0 (add T (add T (withdraw T held (ip 10 1 0 0) 16 .memory) (ip 192 0 2 0) 24 65535 .memory) 0 0 65535 .memory)
+far-taken : told (apply-message T held 0 sample (far 65535)) ≡ leaves 0 3 0 (add T (add T (withdraw T held 0 (ip 10 1 0 0) 16 .memory) 0 (ip 192 0 2 0) 24 65535 .memory) 0 0 0 65535 .memory)
 unfolding reading
 far-taken = rw (far-hop 65535)
 
 -- M49: place 65,536 is none
-far-refused : told (apply-message T held sample (far 65536)) ≡ leaves 13 0 0 held
+far-refused : told (apply-message T held 0 sample (far 65536)) ≡ leaves 13 0 0 held
 unfolding reading
 far-refused = rw (far-hop 65536)

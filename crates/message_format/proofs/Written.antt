@@ -10,7 +10,7 @@ use lib.Dec.{eqb}
 use borrow.Author.Tests.{le-leb}
 use Rattle.rules.specs.declared.Settings.{Settings}
 use Rattle.rules.specs.Tools.{within, all, those}
-use Rattle.rules.specs.Table.{Memory, prefix, loose, refuse, memory-refusal}
+use Rattle.rules.specs.Table.{Memory, prefix, loose, refuse, party-refusal}
 use Rattle.rules.specs.Calls.{Withdraw, run}
 use Rattle.rules.proofs.Prefixes.{loose-false}
 use Rattle.message_format.specs.Format.{byte, from-octets, two-bytes, some-starts, starts, Prefix, bytes-for, octet, address-at, prefix-from, after-prefix, prefix-fits, prefixes-fit, prefixes, attributes-fit, next-hops, at-most-one, attributes-good, first-hop, next-hop, all-ones, header-good, withdrawn-to, attributes-from, announced-from, parts-fit, withdrawn-prefixes, announced-prefixes, announces, message-hop, contents-good, well-formed}
@@ -82,14 +82,14 @@ module _ (p L : ℕ) (short : L ≤ 32) (tight : loose p L ≡ false) (word : p 
   unfolding contents
   withdrawal-no-more = (ap (λ (c : Contents). c .announced) said, (ap (λ (c : Contents). c .announcing) said, ap (λ (c : Contents). c .hop) said))
 
-  -- Its one call is the withdrawal of the route.
-  pub withdrawal-calls : (hops : List ℕ) → message-calls (withdrawal p L) hops ≡ Withdraw p L ∷ []
+  -- Its one call is the withdrawal of the route, for whichever party it is read.
+  pub withdrawal-calls : (party : ℕ) (hops : List ℕ) → message-calls party (withdrawal p L) hops ≡ Withdraw party p L ∷ []
   unfolding message-calls withdrawals announcements hop-in hop-place
-  withdrawal-calls hops = simp (withdrawal-says, withdrawal-no-more .1 .1)
+  withdrawal-calls party hops = simp (withdrawal-says, withdrawal-no-more .1 .1)
 
-  -- Reading it does and leaves what that call does, whatever the table and the hops; memory that every call refuses is refused
-  -- with its number.
-  pub reading-gives-it-back : (t : Settings) (m : Memory) (hops : List ℕ) → apply-message t m (withdrawal p L) hops
-      ≡ cond (eqb (memory-refusal t m 0) 0) (counts (run t m (Withdraw p L ∷ []))) (refused-message (memory-refusal t m 0) m)
+  -- Reading it does and leaves what that call does, whatever the table and the hops; memory or a party that every
+  -- such call refuses is refused with its number.
+  pub reading-gives-it-back : (t : Settings) (m : Memory) (party : ℕ) (hops : List ℕ) → apply-message t m party (withdrawal p L) hops
+      ≡ cond (eqb (party-refusal t m party 0) 0) (counts (run t m (Withdraw party p L ∷ []))) (refused-message (party-refusal t m party 0) m)
   unfolding apply-message update-refusal message-refusal refuse
-  reading-gives-it-back t m hops = simp (withdrawal-good, withdrawal-no-more .1 .0, withdrawal-calls)
+  reading-gives-it-back t m party hops = simp (withdrawal-good, withdrawal-no-more .1 .0, withdrawal-calls)

@@ -7,7 +7,7 @@ use lib.ListN.{length, getD}
 use lib.Dec.{leb, eqb}
 use Rattle.rules.specs.Tools.{lowest}
 use Rattle.rules.specs.declared.Settings.{Settings}
-use Rattle.rules.specs.Table.{Memory, lent, refuse, memory-refusal}
+use Rattle.rules.specs.Table.{Memory, lent, refuse, party-refusal}
 use Rattle.rules.specs.Calls.{Call, Add, Withdraw, Run, run, accepted-of, refused-of}
 use Rattle.message_format.specs.declared.Report.{Report}
 use Rattle.message_format.specs.Format.{Prefix, well-formed, announces, message-hop, withdrawn-prefixes, announced-prefixes}
@@ -39,25 +39,26 @@ unfoldable pub update-refusal : (message hops : List ℕ) → ℕ
 update-refusal message hops =
     refuse (not (well-formed message)) 12 (refuse (announces message && not (is-hop (hop-in message hops))) 13 0)
 
--- 1 and 2 go before them, as in every call
-unfoldable pub message-refusal : Settings → Memory → (message hops : List ℕ) → ℕ
-message-refusal t m message hops = memory-refusal t m (update-refusal message hops)
+-- 1, 2 and 15 go before them, as in every call that names its party
+unfoldable pub message-refusal : Settings → Memory → (party : ℕ) (message hops : List ℕ) → ℕ
+message-refusal t m party message hops = party-refusal t m party (update-refusal message hops)
 
 -- ---- What a message does
 
--- a withdrawal of each prefix, in their order
-unfoldable pub withdrawals : List Prefix → List Call
-withdrawals qs = map (λ q. Withdraw (q .prefix) (q .length)) qs
+-- a withdrawal of each prefix by the party, in their order
+unfoldable pub withdrawals : (party : ℕ) → List Prefix → List Call
+withdrawals party qs = map (λ q. Withdraw party (q .prefix) (q .length)) qs
 
 -- an add of each with the hop; without a hop nothing is announced
-unfoldable pub announcements : (hop : Option ℕ) → List Prefix → List Call
-announcements none qs = []
-announcements (some hop) qs = map (λ q. Add (q .prefix) (q .length) hop) qs
+unfoldable pub announcements : (party : ℕ) (hop : Option ℕ) → List Prefix → List Call
+announcements party none qs = []
+announcements party (some hop) qs = map (λ q. Add party (q .prefix) (q .length) hop) qs
 
--- a message is its single calls: the withdrawn routes go first, then the announced ones
-unfoldable pub message-calls : (message hops : List ℕ) → List Call
-message-calls message hops =
-    withdrawals (withdrawn-prefixes message) ++ announcements (hop-in message hops) (announced-prefixes message)
+-- a message is single calls of its party: the withdrawn routes go first, then the announced ones
+unfoldable pub message-calls : (party : ℕ) (message hops : List ℕ) → List Call
+message-calls party message hops =
+    withdrawals party (withdrawn-prefixes message)
+    ++ announcements party (hop-in message hops) (announced-prefixes message)
 
 -- what a message gives back and leaves
 pub record Read : Type 0 where
@@ -81,10 +82,10 @@ unfoldable pub refused-message : (refusal : ℕ) → Memory → Read
 refused-message refusal m = record { report = record { refusal = refusal; accepted = 0; refused = 0 }; memory = m }
 
 -- a message, as it is given back and as it leaves the memory
-unfoldable pub apply-message : Settings → Memory → (message hops : List ℕ) → Read
-apply-message t m message hops =
-    let refusal = message-refusal t m message hops in
-    cond (eqb refusal 0) (counts (run t m (message-calls message hops))) (refused-message refusal m)
+unfoldable pub apply-message : Settings → Memory → (party : ℕ) (message hops : List ℕ) → Read
+apply-message t m party message hops =
+    let refusal = message-refusal t m party message hops in
+    cond (eqb refusal 0) (counts (run t m (message-calls party message hops))) (refused-message refusal m)
 
 -- ---- The numbers as they cross to C
 

@@ -10,15 +10,15 @@ use lib.ListN.{length, getD}
 use borrow.Author.Tests.{ltb-false, leb-false, lt-leb}
 use Rattle.rules.specs.declared.Settings.{Settings}
 use Rattle.rules.specs.Tools.{all as every, lowest, or-else}
-use Rattle.rules.specs.Table.{Memory, refuse, memory-refusal}
+use Rattle.rules.specs.Table.{Memory, refuse, party-refusal}
 use Rattle.rules.proofs.Lowest.{some-lowest}
 use Rattle.rules.proofs.Prefixes.{loose-low}
 use Rattle.message_format.specs.Format.{announces, message-hop}
 use Rattle.message_format.specs.Reading.{place-in, hop-place, is-hop, hop-in, update-refusal, message-refusal}
 use Rattle.message_format.specs.Writing.{writing-refusal}
 use Rattle.message_format.proofs.Written.{withdrawal-length}
-use Rattle.promises.specs.Demands.{some-below, memory-conditions, route-conditions}
-use Rattle.promises.proofs.Conditions.{first-met, numbered, memory-then}
+use Rattle.promises.specs.Demands.{some-below, memory-conditions, party-conditions, route-conditions}
+use Rattle.promises.proofs.Conditions.{first-met, numbered, party-then}
 use Rattle.promises.proofs.Sums.{by-cases}
 use Rattle.message_promises.specs.Heard.{malformed, unknown, no-hop, message-conditions, writing-conditions}
 use Rattle.message_promises.proofs.Form.{form-bad}
@@ -45,18 +45,18 @@ hop-unknown hops (some address) = ap not (low-place (λ i. eqb (getD hops i 0) a
 
 -- ---- So what is given back is the number of the first condition met
 
-pub message-checks : (t : Settings) (m : Memory) (message hops : List ℕ)
-    → message-refusal t m message hops ≡ memory-refusal t m (refuse (malformed message) 12 (refuse (no-hop message hops) 13 0))
+pub message-checks : (t : Settings) (m : Memory) (party : ℕ) (message hops : List ℕ)
+    → message-refusal t m party message hops ≡ party-refusal t m party (refuse (malformed message) 12 (refuse (no-hop message hops) 13 0))
 unfolding update-refusal message-refusal hop-in announces no-hop
-message-checks t m message hops = rw (form-bad message, hop-unknown hops (message-hop message))
+message-checks t m party message hops = rw (form-bad message, hop-unknown hops (message-hop message))
 
-pub message-first : (t : Settings) (m : Memory) (message hops : List ℕ) → message-refusal t m message hops ≡ first-met (message-conditions t m message hops)
+pub message-first : (t : Settings) (m : Memory) (party : ℕ) (message hops : List ℕ) → message-refusal t m party message hops ≡ first-met (message-conditions t m party message hops)
 unfolding message-conditions first-met
-message-first t m message hops = message-checks t m message hops ∙ memory-then t m _
+message-first t m party message hops = message-checks t m party message hops ∙ party-then t m party _
 
-pub message-numbered : (t : Settings) (m : Memory) (message hops : List ℕ) → numbered (message-conditions t m message hops) ≡ true
-unfolding numbered every message-conditions memory-conditions
-message-numbered t m message hops = refl
+pub message-numbered : (t : Settings) (m : Memory) (party : ℕ) (message hops : List ℕ) → numbered (message-conditions t m party message hops) ≡ true
+unfolding numbered every message-conditions party-conditions memory-conditions
+message-numbered t m party message hops = refl
 
 -- ---- A written withdrawal
 

@@ -1,14 +1,16 @@
 -- What is promised of a message after any history. A message is its single calls (proofs/Routes.antt), so it only makes the
 -- history longer, and all that crates/promises says of lookups and updates holds after it as before. What is said here is what
--- the message itself is given, by its bytes, the list of next hops and the stored routes.
-use Prim.Native.Nat.{ℕ}
+-- the message itself is given, by its party, its bytes, the list of next hops and the stored routes.
+use Prim.Native.Nat.{ℕ, _≤_}
 use mathlib.Core.Path.{_≡_, sym, ap, _∙_}
 use mathlib.Core.Bool.{true, false}
 use mathlib.Core.List.{List, _++_, append-cancel-left}
 use mathlib.Core.Logic.{_↔_}
+use lib.Dec.{ltb}
 use lib.Pow.{areBytes}
+use borrow.Author.Tests.{ltb-false, le-ltb}
 use Rattle.rules.specs.declared.Settings.{Settings}
-use Rattle.rules.specs.Table.{Memory, refuse}
+use Rattle.rules.specs.Table.{Memory, refuse, party-refusal}
 use Rattle.rules.specs.Calls.{Call, run, accepted-of, refused-of}
 use Rattle.rules.proofs.Refusals.{passed}
 use Rattle.message_format.specs.Reading.{Read, apply-message}
@@ -23,50 +25,54 @@ use Rattle.message_promises.proofs.Routes.{message-single, accepted-cou
 
 -- ---- One message more
 
-module _ {t : Settings} {calls : List Call} {answers : List ℕ} {m : Memory} (history : History t calls answers m) (message hops : List ℕ) where
+module _ {t : Settings} {calls : List Call} {answers : List ℕ} {m : Memory} (history : History t calls answers m) (party : ℕ) (message hops : List ℕ) where
   -- what it is given back and leaves,
   abbrev applied : Read
-  applied = apply-message t m message hops
+  applied = apply-message t m party message hops
 
   -- its single calls, none where it is refused,
   abbrev heard : List Call
-  heard = heard-calls message hops (applied .report .refusal)
+  heard = heard-calls party message hops (applied .report .refusal)
 
   -- and the routes stored before it
   abbrev routes : List Route
   routes = stored-by calls answers
 
-  -- It is refused with 12 or 13 alone, by the message and the list of next hops.
-  pub message-given : applied .report .refusal ≡ refuse (malformed message) 12 (refuse (no-hop message hops) 13 0)
-  message-given = its-refusal t m message hops ∙ message-checks t m message hops ∙ checks-passed history _
+  -- It is refused with 15, 12 or 13 alone, by its party, the message and the list of next hops.
+  pub message-given : applied .report .refusal ≡ refuse (ltb 1 party) 15 (refuse (malformed message) 12 (refuse (no-hop message hops) 13 0))
+  unfolding party-refusal
+  message-given = its-refusal t m party message hops ∙ message-checks t m party message hops ∙ checks-passed history _
 
-  -- It is accepted exactly if it is well-formed and what it announces has a hop.
-  pub message-accepted : (applied .report .refusal ≡ 0) ↔ ((malformed message ≡ false) × (no-hop message hops ≡ false))
+  -- It is accepted exactly if its party is 0 or 1, it is well-formed and what it announces has a hop.
+  pub message-accepted : (applied .report .refusal ≡ 0) ↔ ((party ≤ 1) × ((malformed message ≡ false) × (no-hop message hops ≡ false)))
   unfolding refuse
   message-accepted = (
-    λ good. let form = passed (malformed message) 11 _ (sym message-given ∙ good) in (form .0, passed (no-hop message hops) 12 0 (form .1) .0),
-    λ good. message-given ∙ rw (good .0, good .1),
+    λ good.
+        let known = passed (ltb 1 party) 14 _ (sym message-given ∙ good) in
+        let form = passed (malformed message) 11 _ (known .1) in
+        (ltb-false 1 party (known .0), (form .0, passed (no-hop message hops) 12 0 (form .1) .0)),
+    λ good. message-given ∙ rw (le-ltb 1 party (good .0), good .1 .0, good .1 .1),
   )
 
   module _ (bytes : areBytes message ≡ true) where
     -- The history goes on with its single calls.
     pub message-history : History t (calls ++ heard) (answers ++ run t m heard .answers) (applied .memory)
-    message-history = history-more history (message-single t m message hops bytes)
+    message-history = history-more history (message-single t m party message hops bytes)
 
     -- Each of its routes is given the number of the first listed condition that is so of the routes stored by then,
     pub message-numbers : run t m heard .answers ≡ paper t routes heard .answers
-    message-numbers = more-answers-on-paper history (message-single t m message hops bytes)
+    message-numbers = more-answers-on-paper history (message-single t m party message hops bytes)
 
     -- and its counts are how many of these numbers are 0, and how many are not.
     pub message-accepts : applied .report .accepted ≡ accepted-of (paper t routes heard .answers)
-    message-accepts = accepted-counted t m message hops ∙ ap accepted-of message-numbers
+    message-accepts = accepted-counted t m party message hops ∙ ap accepted-of message-numbers
 
     pub message-refuses : applied .report .refused ≡ refused-of (paper t routes heard .answers)
-    message-refuses = refused-counted t m message hops ∙ ap refused-of message-numbers
+    message-refuses = refused-counted t m party message hops ∙ ap refused-of message-numbers
 
     -- What is stored after it follows from what was stored before it.
     pub message-stores : stored-by (calls ++ heard) (answers ++ run t m heard .answers) ≡ paper t routes heard .last
-    message-stores = more-routes-on-paper history (message-single t m message hops bytes)
+    message-stores = more-routes-on-paper history (message-single t m party message hops bytes)
 
 -- ---- Demand 3, of a table newly cleared under these settings, to which the stored routes are added, in any order
 
@@ -75,20 +81,20 @@ module _ {t : Settings} {calls : List Call} {answers : List ℕ} {m : Memory} (h
     {order : List Route} (same : Reordered (stored-by calls answers) order) {new-answers : List ℕ} {new-m : Memory} (anew : History t (adds order) new-answers new-m)
     {more : List Call} {more-answers more-new-answers : List ℕ} {last new-last : Memory}
     (made : SingleCalls t m more more-answers last) (made-anew : SingleCalls t new-m more more-new-answers new-last)
-    (message hops : List ℕ) (bytes : areBytes message ≡ true) where
+    (party : ℕ) (message hops : List ℕ) (bytes : areBytes message ≡ true) where
   -- its single calls
   abbrev heard-by-both : List Call
-  heard-by-both = heard-calls message hops (apply-message t last message hops .report .refusal)
+  heard-by-both = heard-calls party message hops (apply-message t last party message hops .report .refusal)
 
-  same-refusal : apply-message t new-last message hops .report .refusal ≡ apply-message t last message hops .report .refusal
-  same-refusal = message-given (history-more anew made-anew) message hops ∙ sym (message-given (history-more history made) message hops)
+  same-refusal : apply-message t new-last party message hops .report .refusal ≡ apply-message t last party message hops .report .refusal
+  same-refusal = message-given (history-more anew made-anew) party message hops ∙ sym (message-given (history-more history made) party message hops)
 
   -- They are the same on both, so that the message is then among what both were given, and all this holds of the next one.
-  pub both-heard : SingleCalls t m (more ++ heard-by-both) (more-answers ++ run t last heard-by-both .answers) (apply-message t last message hops .memory)
-      × SingleCalls t new-m (more ++ heard-by-both) (more-new-answers ++ run t new-last heard-by-both .answers) (apply-message t new-last message hops .memory)
+  pub both-heard : SingleCalls t m (more ++ heard-by-both) (more-answers ++ run t last heard-by-both .answers) (apply-message t last party message hops .memory)
+      × SingleCalls t new-m (more ++ heard-by-both) (more-new-answers ++ run t new-last heard-by-both .answers) (apply-message t new-last party message hops .memory)
   both-heard = (
-    made-append made (message-single t last message hops bytes),
-    made-append made-anew (rw same-refusal at (message-single t new-last message hops bytes)),
+    made-append made (message-single t last party message hops bytes),
+    made-append made-anew (rw same-refusal at (message-single t new-last party message hops bytes)),
   )
 
   same-given : run t new-last heard-by-both .answers ≡ run t last heard-by-both .answers
@@ -96,8 +102,8 @@ module _ {t : Settings} {calls : List Call} {answers : List ℕ} {m : Memory} (h
       (same-numbers history same anew (both-heard .0) (both-heard .1) ∙ rw (same-numbers history same anew made made-anew))
 
   -- Both give it the same report.
-  pub same-reports : apply-message t new-last message hops .report ≡ apply-message t last message hops .report
+  pub same-reports : apply-message t new-last party message hops .report ≡ apply-message t last party message hops .report
   same-reports =
-      let accepted = rw (same-refusal, same-given, ← accepted-counted t last message hops) at (accepted-counted t new-last message hops) in
-      let refused = rw (same-refusal, same-given, ← refused-counted t last message hops) at (refused-counted t new-last message hops) in
+      let accepted = rw (same-refusal, same-given, ← accepted-counted t last party message hops) at (accepted-counted t new-last party message hops) in
+      let refused = rw (same-refusal, same-given, ← refused-counted t last party message hops) at (refused-counted t new-last party message hops) in
       λ i. record { refusal = same-refusal i; accepted = accepted i; refused = refused i }

@@ -1,5 +1,5 @@
--- Demand 1 of a message and of a written withdrawal, on any settings, any lent memory, any message, any list of next hops
--- and any room. That each call ends and does nothing undefined is what the checks of crates/message_calls and
+-- Demand 1 of a message and of a written withdrawal, on any settings, any lent memory, any party, any message, any list of
+-- next hops and any room. That each call ends and does nothing undefined is what the checks of crates/message_calls and
 -- crates/message_writers prove. The lists of conditions are in specs/Heard.antt.
 use Prim.Native.Nat.{ℕ, _≤_}
 use mathlib.Core.Path.{_≡_, refl, sym, _∙_}
@@ -13,7 +13,7 @@ use Rattle.rules.specs.Table.{Memory, Listed, listed}
 use Rattle.message_format.specs.Reading.{message-refusal, Read, counts, refused-message, apply-message}
 use Rattle.message_format.specs.Writing.{writing-refusal, withdrawal, write-withdrawal}
 use Rattle.message_format.proofs.Counting.{message-refused}
-use Rattle.promises.specs.Demands.{memory-conditions, route-conditions, NoneMet, FirstMet}
+use Rattle.promises.specs.Demands.{memory-conditions, party-conditions, route-conditions, NoneMet, FirstMet}
 use Rattle.promises.proofs.Conditions.{given-exactly, none-exactly}
 use Rattle.promises.proofs.Sums.{by-cases}
 use Rattle.message_promises.specs.Heard.{message-conditions, writing-conditions}
@@ -21,31 +21,31 @@ use Rattle.message_promises.proofs.Conditions.{message-first, message-n
 
 -- ---- A message
 
-module _ (t : Settings) (m : Memory) (message hops : List ℕ) where
+module _ (t : Settings) (m : Memory) (party : ℕ) (message hops : List ℕ) where
   -- what it is given back and leaves
   abbrev applied : Read
-  applied = apply-message t m message hops
+  applied = apply-message t m party message hops
 
-  pub its-refusal : applied .report .refusal ≡ message-refusal t m message hops
+  pub its-refusal : applied .report .refusal ≡ message-refusal t m party message hops
   unfolding apply-message counts refused-message
-  its-refusal = by-cases (eqb (message-refusal t m message hops) 0) (λ good. rw good (sym (eqb-true _ 0 good))) (λ bad. rw bad)
+  its-refusal = by-cases (eqb (message-refusal t m party message hops) 0) (λ good. rw good (sym (eqb-true _ 0 good))) (λ bad. rw bad)
 
   -- A number is given back exactly if its condition is met and none is of those before it in the list.
-  pub numbers-in-order : (n : ℕ) → 1 ≤ n → (applied .report .refusal ≡ n) ↔ FirstMet n (message-conditions t m message hops)
-  numbers-in-order = given-exactly (message-conditions t m message hops) (its-refusal ∙ message-first t m message hops)
+  pub numbers-in-order : (n : ℕ) → 1 ≤ n → (applied .report .refusal ≡ n) ↔ FirstMet n (message-conditions t m party message hops)
+  numbers-in-order = given-exactly (message-conditions t m party message hops) (its-refusal ∙ message-first t m party message hops)
 
   -- 0 is, exactly if no condition is met.
-  pub accepted-exactly : (applied .report .refusal ≡ 0) ↔ NoneMet (message-conditions t m message hops)
-  accepted-exactly = none-exactly (message-conditions t m message hops) (its-refusal ∙ message-first t m message hops) (message-numbered t m message hops)
+  pub accepted-exactly : (applied .report .refusal ≡ 0) ↔ NoneMet (message-conditions t m party message hops)
+  accepted-exactly = none-exactly (message-conditions t m party message hops) (its-refusal ∙ message-first t m party message hops) (message-numbered t m party message hops)
 
   -- These are its numbers, in that order.
-  pub numbers-listed : map (λ c. c .number) (message-conditions t m message hops) ≡ 1 ∷ 2 ∷ 12 ∷ 13 ∷ []
-  unfolding message-conditions memory-conditions
+  pub numbers-listed : map (λ c. c .number) (message-conditions t m party message hops) ≡ 1 ∷ 2 ∷ 15 ∷ 12 ∷ 13 ∷ []
+  unfolding message-conditions party-conditions memory-conditions
   numbers-listed = refl
 
   -- A refused message counts nothing and leaves every lent byte and word as it was.
   pub refused-unchanged : applied .report .refusal ≢ 0 → applied ≡ refused-message (applied .report .refusal) m
-  refused-unchanged bad = message-refused t m message hops (λ good. bad (its-refusal ∙ good)) ∙ rw its-refusal
+  refused-unchanged bad = message-refused t m party message hops (λ good. bad (its-refusal ∙ good)) ∙ rw its-refusal
 
 -- ---- A written withdrawal
 

@@ -35,6 +35,6 @@ module _ (p L : ℕ) (word : p < 2 ^ 32) (room : List ℕ) (accepted : write-wit
     rw (withdrawal-no-more p L (route .0) (route .1) word .1 .0),
   )
 
-  -- Its one call is the withdrawal of the route.
-  pub written-calls : (hops : List ℕ) → message-calls room' hops ≡ Withdraw p L ∷ []
-  written-calls hops = rw (written-left p L room accepted) (withdrawal-calls p L (route .0) (route .1) word hops)
+  -- Its one call is the withdrawal of the route, for whichever party it is heard.
+  pub written-calls : (party : ℕ) (hops : List ℕ) → message-calls party room' hops ≡ Withdraw party p L ∷ []
+  written-calls party hops = rw (written-left p L room accepted) (withdrawal-calls p L (route .0) (route .1) word party hops)

@@ -11,13 +11,13 @@ use Rattle.rules.specs.Calls.{Call}
 use Rattle.message_format.specs.Format.{byte, from-octets, two-bytes, announced-from, message-hop}
 use Rattle.message_format.specs.Reading.{message-calls}
 use Rattle.message_format.specs.Writing.{withdrawal}
-use Rattle.promises.specs.Demands.{Condition, _when_, outside, some-below, every-below, memory-conditions, route-conditions}
+use Rattle.promises.specs.Demands.{Condition, _when_, outside, some-below, every-below, party-conditions, route-conditions}
 
 -- ---- A message in a history
 
--- its single calls; a refused message has none
-unfoldable pub heard-calls : (message hops : List ℕ) (refusal : ℕ) → List Call
-heard-calls message hops refusal = cond (eqb refusal 0) (message-calls message hops) []
+-- its single calls, the party's; a refused message has none
+unfoldable pub heard-calls : (party : ℕ) (message hops : List ℕ) (refusal : ℕ) → List Call
+heard-calls party message hops refusal = cond (eqb refusal 0) (message-calls party message hops) []
 
 -- ---- The form of a message
 
@@ -95,10 +95,10 @@ unknown hops (some address) = not (some-below (λ i. leb i 65535 && eqb (getD ho
 unfoldable pub no-hop : (message hops : List ℕ) → Bool
 no-hop message hops = ltb (announced-from message) (length message) && unknown hops (message-hop message)
 
--- what a message looks at: settings and sizes as every call, its form, and then the hop of what it announces
-unfoldable pub message-conditions : Settings → Memory → (message hops : List ℕ) → List Condition
-message-conditions t m message hops =
-    memory-conditions t m
+-- what a message looks at: settings, sizes and party as every update, its form, and then the hop of what it announces
+unfoldable pub message-conditions : Settings → Memory → (party : ℕ) (message hops : List ℕ) → List Condition
+message-conditions t m party message hops =
+    party-conditions t m party
     ++ (12 when malformed message)
     ∷ (13 when no-hop message hops)
     ∷ []

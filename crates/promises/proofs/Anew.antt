@@ -13,7 +13,7 @@ use Rattle.rules.specs.Table.{prefix, positions, bucket, Memory}
 use Rattle.rules.specs.Ready.{Ready}
 use Rattle.rules.proofs.Members.{any-none}
 use Rattle.rules.specs.Calls.{Call, Add, word-sized, each}
-use Rattle.promises.specs.History.{Route, written, noted, about}
+use Rattle.promises.specs.History.{Route, of-party, written, noted, about}
 use Rattle.promises.specs.Demands.{sum, number, exists, beside, crowded, landings, overflows, add-number, number-given, paper, adds}
 use Rattle.promises.proofs.Sums.{weight-within, none-exists}
 use Rattle.promises.proofs.Paper.{without-none}
@@ -34,7 +34,7 @@ kept-same {t} same kept = record {
   slots = record {
     size = kept .slots .size;
     buckets = λ p L ready weight. kept .slots .buckets p L ready weight ∙ same (in-bucket t weight p L);
-    default = λ weight. kept .slots .default weight ∙ same (in-default weight);
+    default = λ party known weight. kept .slots .default party known weight ∙ same (in-default weight party);
   };
   counters = record {
     size = kept .counters .size;
@@ -42,7 +42,7 @@ kept-same {t} same kept = record {
   };
   small = λ L j ready. rw (same (lands t L j)) at (kept .small L j ready);
   all-fit = sym (same (λ r. cond (not (fit r)) 1 0)) ∙ kept .all-fit;
-  once = λ p L. rw (same (λ r. cond (about p L r) 1 0)) at (kept .once p L);
+  once = λ party p L. rw (same (λ r. cond (about party p L r) 1 0)) at (kept .once party p L);
 }
 
 -- some routes and some more are these routes
@@ -72,11 +72,11 @@ module _ {t : Settings} {routes : List Route} {m : Memory} (kept : Kept t routes
       go true h = refl
       go false h = absurd (omega (arith, kept .all-fit))
 
-  absent : exists (about (r .prefix) (r .length)) some ≡ false
-  unfolding number about
-  absent = none-there (about (r .prefix) (r .length)) some
-      (let part = rw (eq-eqb (r .prefix) (r .prefix) refl, eq-eqb (r .length) (r .length) refl) at (weight-part (λ q. cond (about (r .prefix) (r .length) q) 1 0)) in
-      omega (arith, part, kept .once (r .prefix) (r .length)))
+  absent : exists (about (r .party) (r .prefix) (r .length)) some ≡ false
+  unfolding number about of-party
+  absent = none-there (about (r .party) (r .prefix) (r .length)) some
+      (let part = rw (eq-eqb (r .party) (r .party) refl, eq-eqb (r .prefix) (r .prefix) refl, eq-eqb (r .length) (r .length) refl) at (weight-part (λ q. cond (about (r .party) (r .prefix) (r .length) q) 1 0)) in
+      omega (arith, part, kept .once (r .party) (r .prefix) (r .length)))
 
   of-length : 1 ≤ r .length → Ready t (r .length)
   of-length low = ready (kept .range) low (next-fit .high)
@@ -94,9 +94,9 @@ module _ {t : Settings} {routes : List Route} {m : Memory} (kept : Kept t routes
       le-ltb 15 (landings t some (r .length) j + count j (positions t (r .prefix) (r .length))) (omega (arith, part, kept .small (r .length) j (of-length low))))
 
   -- so the next one, with any valid hop, meets none of the conditions
-  pub next-accepted : (hop : ℕ) → hop ≤ 65535 → add-number t some (r .prefix) (r .length) hop ≡ 0
+  pub next-accepted : (hop : ℕ) → hop ≤ 65535 → add-number t some (r .party) (r .prefix) (r .length) hop ≡ 0
   next-accepted hop high = add-accepted (record {
-    valid = record { high = next-fit .high; tight = next-fit .tight };
+    valid = record { known = next-fit .known; high = next-fit .high; tight = next-fit .tight };
     not-odd = next-fit .not-odd;
     hop-high = high;
     vacancy = λ absent. vacancy;
@@ -105,7 +105,7 @@ module _ {t : Settings} {routes : List Route} {m : Memory} (kept : Kept t routes
 
   -- the call that adds it
   abbrev call : Call
-  call = Add (r .prefix) (r .length) (r .hop)
+  call = Add (r .party) (r .prefix) (r .length) (r .hop)
 
   zero-given : number-given t some call ≡ 0
   unfolding number-given
@@ -113,7 +113,7 @@ module _ {t : Settings} {routes : List Route} {m : Memory} (kept : Kept t routes
 
   noted-down : noted call (number-given t some call) some ≡ r ∷ some
   unfolding noted written
-  noted-down = rw (zero-given, without-none (r .prefix) (r .length) some absent)
+  noted-down = rw (zero-given, without-none (r .party) (r .prefix) (r .length) some absent)
 
 -- ---- Added anew
 
@@ -122,7 +122,7 @@ pub record Anew (t : Settings) (there more routes : List Route) : Type 0 where
   pub accepted : all (λ n. eqb n 0) (paper t there (adds more) .answers) ≡ true
   pub same : Same (paper t there (adds more) .last) routes
 
-pub sized : (r : Route) → r .prefix < 2 ^ 32 → word-sized (Add (r .prefix) (r .length) (r .hop)) ≡ true
+pub sized : (r : Route) → r .prefix < 2 ^ 32 → word-sized (Add (r .party) (r .prefix) (r .length) (r .hop)) ≡ true
 unfolding word-sized
 sized r word = lt-ltb (r .prefix) (2 ^ 32) word
 

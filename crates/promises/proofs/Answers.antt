@@ -16,10 +16,10 @@ use Rattle.rules.specs.Table.{bucket, in-range, prefix, positions, Memory, look
 use Rattle.rules.proofs.Members.{both}
 use Rattle.rules.proofs.Placing.{ranges, positions-length}
 use Rattle.rules.specs.Calls.{Call, Add, Withdraw, word-sized, act}
-use Rattle.promises.specs.History.{Route, written, noted, without}
+use Rattle.promises.specs.History.{Route, routes-of, written, noted, without, route}
 use Rattle.promises.specs.Demands.{Finds, SaysNone, number, beside, number-given, Stored, sum, exists, matches, crowded, add-number, Longest, NoMatch, marks, covered, probes-down-to, in-use, lengths-in-use, longest}
 use Rattle.promises.proofs.Sums.{exists-there, exists-one}
-use Rattle.promises.proofs.Paper.{route, worth, stored-route, paper-withdrawn}
+use Rattle.promises.proofs.Paper.{own-stored, worth, stored-route, paper-withdrawn}
 use Rattle.promises.proofs.Kept.{Kept}
 use Rattle.promises.proofs.Refusals.{number-by-routes}
 use Rattle.promises.proofs.Numbers.{withdrawable, number-not-10, add-not-8}
@@ -57,45 +57,48 @@ covered-in-use t routes address L range h =
     let r = exists-one (marks t L (j .0)) routes (j .1) in
     exists-there (λ r. eqb (r .length) L) (r .1) (both (eqb (r .0 .length) L) _ (r .2) .0)
 
-module _ {t : Settings} {routes : List Route} {m : Memory} (kept : Kept t routes m) (address : ℕ) (word : address < 2 ^ 32) where
-  pub finds : (r : Route) → Longest address routes r → Finds (lookup t m address) r
-  unfolding answer-by
-  finds r best = rw (lookup-finds kept address word r best) (record { refusal = refl; found = refl; hop = refl; length = refl })
+module _ {t : Settings} {routes : List Route} {m : Memory} (kept : Kept t routes m) (party : ℕ) (known : party ≤ 1) (address : ℕ) (word : address < 2 ^ 32) where
+  abbrev its-routes : List Route
+  its-routes = routes-of party routes
 
-  -- the default matches every address
-  pub default-longest : (r : Route) → Stored r routes → r .length ≡ 0 → ((q : Route) → Stored q routes → matches address q ≡ true → q .length ≡ 0)
-      → Longest address routes r
+  pub finds : (r : Route) → Longest address its-routes r → Finds (lookup t m party address) r
+  unfolding answer-by
+  finds r best = rw (lookup-finds kept party known address word r best) (record { refusal = refl; found = refl; hop = refl; length = refl })
+
+  -- the party's default matches every address
+  pub default-longest : (r : Route) → Stored r its-routes → r .length ≡ 0 → ((q : Route) → Stored q its-routes → matches address q ≡ true → q .length ≡ 0)
+      → Longest address its-routes r
   unfolding matches
   default-longest r stored default no-other = record {
     stored = stored;
-    matching = eq-eqb _ _ (default-prefix kept address word r stored default);
+    matching = eq-eqb _ _ (default-prefix kept address word r (own-stored party routes stored .0) default);
     longest = λ q there matching. omega (arith, no-other q there matching);
   }
 
-  pub says : NoMatch address routes → SaysNone (lookup t m address)
+  pub says : NoMatch address its-routes → SaysNone (lookup t m party address)
   unfolding answer-by
-  says no-match = rw (lookup-none kept address word no-match) (record { refusal = refl; found = refl; hop = refl; length = refl })
+  says no-match = rw (lookup-none kept party known address word no-match) (record { refusal = refl; found = refl; hop = refl; length = refl })
 
-  pub finds-none : lookup t m address .found ≡ false → NoMatch address routes
+  pub finds-none : lookup t m party address .found ≡ false → NoMatch address its-routes
   unfolding answer-by
-  finds-none h = go (longest address routes) (right address routes)
+  finds-none h = go (longest address its-routes) (right address its-routes)
     where
-      go : (o : Option Route) → Right address routes o → NoMatch address routes
+      go : (o : Option Route) → Right address its-routes o → NoMatch address its-routes
       go none no-match = no-match
-      go (some r) best = absurd (true≢false (rw (lookup-finds kept address word r best) at h))
+      go (some r) best = absurd (true≢false (rw (lookup-finds kept party known address word r best) at h))
 
-  pub probes : lookup t m address .probes ≡ probes-down-to t routes address (lookup t m address .length)
+  pub probes : lookup t m party address .probes ≡ probes-down-to t routes address (lookup t m party address .length)
   unfolding answer-by
-  probes = rw (lookup-by-routes kept address word) (go (longest address routes))
+  probes = rw (lookup-by-routes kept party known address word) (go (longest address its-routes))
     where
       go : (o : Option Route) → answer-by t routes address o .probes ≡ probes-down-to t routes address (answer-by t routes address o .length)
       go none = refl
       go (some r) = refl
 
-  pub probes-few : lookup t m address .probes ≤ lengths-in-use routes
+  pub probes-few : lookup t m party address .probes ≤ lengths-in-use routes
   unfolding probes-down-to lengths-in-use
-  probes-few = rw probes (those-fewer (λ n. leb (lookup t m address .length) n && covered t routes address n) (in-use routes) 32
-      (λ L h. covered-in-use t routes address L (kept .range) (both (leb (lookup t m address .length) L) _ h .1)))
+  probes-few = rw probes (those-fewer (λ n. leb (lookup t m party address .length) n && covered t routes address n) (in-use routes) 32
+      (λ L h. covered-in-use t routes address L (kept .range) (both (leb (lookup t m party address .length) L) _ h .1)))
 
 -- ---- Numbers given back
 
@@ -104,41 +107,41 @@ module _ {t : Settings} {routes : List Route} {m : Memory} (kept : Kept t routes
   never-10 call sized = rw (number-by-routes kept call sized) (number-not-10 t routes call)
 
   -- what an accepted withdrawal leaves
-  withdrawn-kept : (p L : ℕ) → p < 2 ^ 32 → act t (Withdraw p L) m .refusal ≡ 0 → Kept t (without p L routes) (act t (Withdraw p L) m .memory)
+  withdrawn-kept : (party p L : ℕ) → p < 2 ^ 32 → act t (Withdraw party p L) m .refusal ≡ 0 → Kept t (without party p L routes) (act t (Withdraw party p L) m .memory)
   unfolding noted written word-sized
-  withdrawn-kept p L word e = rw e at (kept-next kept (Withdraw p L) (lt-ltb p (2 ^ 32) word))
+  withdrawn-kept party p L word e = rw e at (kept-next kept (Withdraw party p L) (lt-ltb p (2 ^ 32) word))
 
-  -- an accepted withdrawal takes one stored route away
-  record Freed (p L : ℕ) : Type 0 where
+  -- an accepted withdrawal takes one stored route of the party's away
+  record Freed (party p L : ℕ) : Type 0 where
     hop : ℕ
-    parted : Parted (without p L routes) (route p L hop ∷ []) routes
+    parted : Parted (without party p L routes) (route party p L hop ∷ []) routes
 
-  withdrawal : (p L : ℕ) → p < 2 ^ 32 → act t (Withdraw p L) m .refusal ≡ 0 → Freed p L
+  withdrawal : (party p L : ℕ) → p < 2 ^ 32 → act t (Withdraw party p L) m .refusal ≡ 0 → Freed party p L
   unfolding number-given sum worth word-sized
-  withdrawal p L word e =
-      let ok = withdrawable routes p L (sym (number-by-routes kept (Withdraw p L) (lt-ltb p (2 ^ 32) word)) ∙ e) in
-      let old = stored-route p L routes (ok .1) in
+  withdrawal party p L word e =
+      let ok = withdrawable routes party p L (sym (number-by-routes kept (Withdraw party p L) (lt-ltb p (2 ^ 32) word)) ∙ e) in
+      let old = stored-route party p L routes (ok .1) in
       record {
         hop = old .0;
-        parted = λ weight. omega (arith, paper-withdrawn p L (old .0) (old .1) (kept .once p L) weight);
+        parted = λ weight. omega (arith, paper-withdrawn party p L (old .0) (old .1) (kept .once party p L) weight);
       }
 
   -- the number that an add is given after it
-  add-after : (p L q hop : ℕ) → p < 2 ^ 32 → q < 2 ^ 32 → act t (Withdraw p L) m .refusal ≡ 0
-      → act t (Add q L hop) (act t (Withdraw p L) m .memory) .refusal ≡ add-number t (without p L routes) q L hop
+  add-after : (party p L other q hop : ℕ) → p < 2 ^ 32 → q < 2 ^ 32 → act t (Withdraw party p L) m .refusal ≡ 0
+      → act t (Add other q L hop) (act t (Withdraw party p L) m .memory) .refusal ≡ add-number t (without party p L routes) other q L hop
   unfolding number-given word-sized
-  add-after p L q hop word word-q e = number-by-routes (withdrawn-kept p L word e) (Add q L hop) (lt-ltb q (2 ^ 32) word-q)
+  add-after party p L other q hop word word-q e = number-by-routes (withdrawn-kept party p L word e) (Add other q L hop) (lt-ltb q (2 ^ 32) word-q)
 
-  pub freed : (p L hop : ℕ) → p < 2 ^ 32 → hop ≤ 65535 → act t (Withdraw p L) m .refusal ≡ 0
-      → act t (Add p L hop) (act t (Withdraw p L) m .memory) .refusal ≡ 0
-  freed p L hop word high e =
-      let free = withdrawal p L word e in
-      add-after p L p hop word word e ∙ next-accepted kept (without p L routes) [] (route p L (free .hop)) (free .parted) hop high
+  pub freed : (party p L hop : ℕ) → p < 2 ^ 32 → hop ≤ 65535 → act t (Withdraw party p L) m .refusal ≡ 0
+      → act t (Add party p L hop) (act t (Withdraw party p L) m .memory) .refusal ≡ 0
+  freed party p L hop word high e =
+      let free = withdrawal party p L word e in
+      add-after party p L party p hop word word e ∙ next-accepted kept (without party p L routes) [] (route party p L (free .hop)) (free .parted) hop high
 
-  pub freed-place : (p L q hop : ℕ) → p < 2 ^ 32 → q < 2 ^ 32 → bucket t q ≡ bucket t p → act t (Withdraw p L) m .refusal ≡ 0
-      → act t (Add q L hop) (act t (Withdraw p L) m .memory) .refusal ≢ 8
+  pub freed-place : (party p L other q hop : ℕ) → p < 2 ^ 32 → q < 2 ^ 32 → bucket t q ≡ bucket t p → act t (Withdraw party p L) m .refusal ≡ 0
+      → act t (Add other q L hop) (act t (Withdraw party p L) m .memory) .refusal ≢ 8
   unfolding crowded number beside
-  freed-place p L q hop word word-q same e =
-      let free = withdrawal p L word e in
-      rw (add-after p L q hop word word-q e)
-      (add-not-8 t (without p L routes) q L hop (λ low. rw same (vacancy kept (without p L routes) [] (route p L (free .hop)) (free .parted) low)))
+  freed-place party p L other q hop word word-q same e =
+      let free = withdrawal party p L word e in
+      rw (add-after party p L other q hop word word-q e)
+      (add-not-8 t (without party p L routes) other q L hop (λ low. rw same (vacancy kept (without party p L routes) [] (route party p L (free .hop)) (free .parted) low)))

@@ -13,12 +13,12 @@ use lib.Pow.{shr-shr}
 use borrow.Author.Tests.{ltb-true, leb-true, leb-false, lt-ltb, le-ltb, eqb-true, eqb-false, eq-eqb, ne-eqb}
 use Rattle.rules.specs.declared.Settings.{Settings}
 use Rattle.rules.specs.Tools.{within, all as every, any, lowest, or-else}
-use Rattle.rules.specs.Table.{list-in-range, in-range, prefix, Memory, counters-size, slots-size, slot-number, occupied, mark-at, prefix-at, holds, free, held, vacant, is-some, stored, refuse, sized, lies-in, odd-prefix, from-1, full, passes-15, runs-short, memory-refusal, add-refusal, withdraw-refusal, change-refusal, unless-refused, clear, add, withdraw, change, fourfold, list-refusal}
+use Rattle.rules.specs.Table.{list-in-range, in-range, prefix, Memory, counters-size, slots-size, slot-number, own, occupied, mark-at, prefix-at, holds, free, held, vacant, is-some, stored, refuse, sized, lies-in, odd-prefix, from-1, full, passes-15, runs-short, memory-refusal, party-refusal, add-refusal, withdraw-refusal, change-refusal, unless-refused, clear, add, withdraw, change, fourfold, list-refusal}
 use Rattle.rules.proofs.Members.{both}
 use Rattle.rules.proofs.Prefixes.{loose-low}
-use Rattle.rules.proofs.Refusals.{memory-order, add-order, withdraw-order, change-order}
+use Rattle.rules.proofs.Refusals.{memory-order, party-order, add-order, withdraw-order, change-order}
 use Rattle.rules.specs.Calls.{Call, Clear, Add, Withdraw, Change, act}
-use Rattle.promises.specs.Demands.{Condition, outside, list-outside, some-below, every-below, there, no-slot-left, _when_, memory-conditions, route-conditions, odd, conditions, list-conditions, NoneMet, FirstMet}
+use Rattle.promises.specs.Demands.{Condition, outside, list-outside, some-below, every-below, there, no-slot-left, _when_, memory-conditions, party-conditions, route-conditions, odd, conditions, list-conditions, NoneMet, FirstMet}
 use Rattle.promises.proofs.Sums.{by-cases}
 
 -- ---- The first that is met
@@ -130,9 +130,9 @@ not-some-below test (suc n) = go (some-below (λ s. not (test s)) n) (test n) (n
     go false true e = rw (← e)
     go false false e = rw (← e)
 
-pub stored-there : (t : Settings) (slots : List ℕ) (p L : ℕ) → stored t slots p L ≡ there t slots p L
+pub stored-there : (t : Settings) (slots : List ℕ) (party p L : ℕ) → stored t slots party p L ≡ there t slots party p L
 unfolding stored there held holds
-stored-there t slots p L = rw (is-some-below (λ s. occupied (mark-at slots (slot-number t p L s)) && eqb (prefix-at slots (slot-number t p L s)) p) (t .s))
+stored-there t slots party p L = rw (is-some-below (λ s. own party (mark-at slots (slot-number t p L s)) && eqb (prefix-at slots (slot-number t p L s)) p) (t .s))
 
 full-left : (t : Settings) (slots : List ℕ) (p L : ℕ) → full t slots p L ≡ no-slot-left t slots p L
 unfolding full no-slot-left vacant free
@@ -197,61 +197,76 @@ pub memory-first : (t : Settings) (m : Memory) → memory-refusal t m 0 ≡ firs
 unfolding first-met memory-conditions
 memory-first t m = memory-then t m []
 
-add-first : (t : Settings) (m : Memory) (p L hop : ℕ) → add-refusal t m p L hop ≡ first-met (conditions t (Add p L hop) m)
-unfolding first-met conditions memory-conditions route-conditions passes-15
-add-first t m p L hop =
-    add-order t m p L hop ∙ memory-order t m _
+-- 15 comes straight after them, where a call names its party
+pub party-then : (t : Settings) (m : Memory) (party : ℕ) (rest : List Condition)
+    → party-refusal t m party (first-met rest) ≡ first-met (party-conditions t m party ++ rest)
+unfolding first-met memory-conditions party-conditions
+party-then t m party rest = party-order t m party (first-met rest) ∙ rw (range-outside t, sizes-differ t m)
+
+pub party-first : (t : Settings) (m : Memory) (party : ℕ) → party-refusal t m party 0 ≡ first-met (party-conditions t m party)
+unfolding first-met memory-conditions party-conditions
+party-first t m party = party-then t m party []
+
+add-first : (t : Settings) (m : Memory) (party p L hop : ℕ) → add-refusal t m party p L hop ≡ first-met (conditions t (Add party p L hop) m)
+unfolding first-met conditions memory-conditions party-conditions route-conditions passes-15
+add-first t m party p L hop =
+    add-order t m party p L hop ∙ party-order t m party _
     ∙ rw (
       range-outside t,
       sizes-differ t m,
       loose-low p L,
       odd-by-octets p L,
-      stored-there t (m .slots) p L,
+      stored-there t (m .slots) party p L,
       full-left t (m .slots) p L,
-      from-1-up L (not (there t (m .slots) p L)),
+      from-1-up L (not (there t (m .slots) party p L)),
     )
 
 -- an odd prefix stops an add there, whatever comes after
-pub odd-first : (t : Settings) (m : Memory) (p L hop : ℕ) → odd p L ≡ true
-    → act t (Add p L hop) m .refusal ≡ first-met (memory-conditions t m ++ route-conditions p L ++ (11 when true) ∷ [])
-unfolding act add unless-refused first-met conditions memory-conditions route-conditions refuse
-odd-first t m p L hop its = add-first t m p L hop ∙ rw its
+pub odd-first : (t : Settings) (m : Memory) (party p L hop : ℕ) → odd p L ≡ true
+    → act t (Add party p L hop) m .refusal ≡ first-met (party-conditions t m party ++ route-conditions p L ++ (11 when true) ∷ [])
+unfolding act add unless-refused first-met conditions memory-conditions party-conditions route-conditions refuse
+odd-first t m party p L hop its = add-first t m party p L hop ∙ rw its
 
-withdraw-first : (t : Settings) (m : Memory) (p L : ℕ) → withdraw-refusal t m p L ≡ first-met (conditions t (Withdraw p L) m)
-unfolding first-met conditions memory-conditions route-conditions runs-short
-withdraw-first t m p L =
-    withdraw-order t m p L ∙ memory-order t m _
-    ∙ rw (range-outside t, sizes-differ t m, loose-low p L, stored-there t (m .slots) p L, from-1-up)
+withdraw-first : (t : Settings) (m : Memory) (party p L : ℕ) → withdraw-refusal t m party p L ≡ first-met (conditions t (Withdraw party p L) m)
+unfolding first-met conditions memory-conditions party-conditions route-conditions runs-short
+withdraw-first t m party p L =
+    withdraw-order t m party p L ∙ party-order t m party _
+    ∙ rw (range-outside t, sizes-differ t m, loose-low p L, stored-there t (m .slots) party p L, from-1-up)
 
-change-first : (t : Settings) (m : Memory) (p L hop : ℕ) → change-refusal t m p L hop ≡ first-met (conditions t (Change p L hop) m)
-unfolding first-met conditions memory-conditions route-conditions
-change-first t m p L hop =
-    change-order t m p L hop ∙ memory-order t m _
-    ∙ rw (range-outside t, sizes-differ t m, loose-low p L, stored-there t (m .slots) p L)
+change-first : (t : Settings) (m : Memory) (party p L hop : ℕ) → change-refusal t m party p L hop ≡ first-met (conditions t (Change party p L hop) m)
+unfolding first-met conditions memory-conditions party-conditions route-conditions
+change-first t m party p L hop =
+    change-order t m party p L hop ∙ party-order t m party _
+    ∙ rw (range-outside t, sizes-differ t m, loose-low p L, stored-there t (m .slots) party p L)
 
 pub call-first : (t : Settings) (call : Call) (m : Memory) → act t call m .refusal ≡ first-met (conditions t call m)
 unfolding act clear add withdraw change unless-refused conditions
 call-first t Clear m = memory-first t m
-call-first t (Add p L hop) m = add-first t m p L hop
-call-first t (Withdraw p L) m = withdraw-first t m p L
-call-first t (Change p L hop) m = change-first t m p L hop
+call-first t (Add party p L hop) m = add-first t m party p L hop
+call-first t (Withdraw party p L) m = withdraw-first t m party p L
+call-first t (Change party p L hop) m = change-first t m party p L hop
 
-pub list-first : (t : Settings) (m : Memory) (addresses results : List ℕ) → list-refusal t m (length addresses) (length results) 0 ≡ first-met (list-conditions t m addresses results)
+pub list-first : (t : Settings) (m : Memory) (party : ℕ) (addresses results : List ℕ)
+    → list-refusal t m party (length addresses) (length results) 0 ≡ first-met (list-conditions t m party addresses results)
 unfolding first-met list-conditions list-refusal fourfold
-list-first t m addresses results = memory-then t m _
+list-first t m party addresses results = party-then t m party _
 
 -- no number is 0
 pub memory-numbered : (t : Settings) (m : Memory) → numbered (memory-conditions t m) ≡ true
 unfolding numbered every memory-conditions
 memory-numbered t m = refl
 
-pub call-numbered : (t : Settings) (call : Call) (m : Memory) → numbered (conditions t call m) ≡ true
-unfolding numbered every conditions memory-conditions route-conditions
-call-numbered t Clear m = refl
-call-numbered t (Add p L hop) m = refl
-call-numbered t (Withdraw p L) m = refl
-call-numbered t (Change p L hop) m = refl
+pub party-numbered : (t : Settings) (m : Memory) (party : ℕ) → numbered (party-conditions t m party) ≡ true
+unfolding numbered every memory-conditions party-conditions
+party-numbered t m party = refl
 
-pub list-numbered : (t : Settings) (m : Memory) (addresses results : List ℕ) → numbered (list-conditions t m addresses results) ≡ true
-unfolding numbered every list-conditions memory-conditions
-list-numbered t m addresses results = refl
+pub call-numbered : (t : Settings) (call : Call) (m : Memory) → numbered (conditions t call m) ≡ true
+unfolding numbered every conditions memory-conditions party-conditions route-conditions
+call-numbered t Clear m = refl
+call-numbered t (Add party p L hop) m = refl
+call-numbered t (Withdraw party p L) m = refl
+call-numbered t (Change party p L hop) m = refl
+
+pub list-numbered : (t : Settings) (m : Memory) (party : ℕ) (addresses results : List ℕ) → numbered (list-conditions t m party addresses results) ≡ true
+unfolding numbered every list-conditions memory-conditions party-conditions
+list-numbered t m party addresses results = refl

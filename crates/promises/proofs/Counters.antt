@@ -57,9 +57,9 @@ kept-none t n size = record {
   at = λ L j ready h. getD-replicate n (counter-place t L j) 0 0 (place-fits t n L j size ready h);
 }
 
-module _ {t : Settings} {routes after : List Route} {counters : List ℕ} (p L : ℕ) (kept : CountersKept t routes counters) where
+module _ {t : Settings} {routes after : List Route} {counters : List ℕ} (party p L : ℕ) (kept : CountersKept t routes counters) where
   -- an add raises its positions
-  pub kept-added : (hop : ℕ) → Ready t L → Paper p L none (some hop) routes after
+  pub kept-added : (hop : ℕ) → Ready t L → Paper party p L none (some hop) routes after
       → CountersKept t after (step-each (λ n. n + 1) counters (counter-places t p L))
   unfolding landings worth
   kept-added hop ready paper = record {
@@ -70,7 +70,7 @@ module _ {t : Settings} {routes after : List Route} {counters : List ℕ} (p L :
   }
 
   -- a withdrawal lowers its positions
-  pub kept-withdrawn : (hop : ℕ) → Ready t L → Paper p L (some hop) none routes after
+  pub kept-withdrawn : (hop : ℕ) → Ready t L → Paper party p L (some hop) none routes after
       → CountersKept t after (step-each (λ n. n - 1) counters (counter-places t p L))
   unfolding landings worth
   kept-withdrawn hop ready paper = record {
@@ -81,8 +81,8 @@ module _ {t : Settings} {routes after : List Route} {counters : List ℕ} (p L :
   }
 
   -- what lands nowhere else changes no counter
-  pub kept-unmoved : (old new : Option ℕ) → Paper p L old new routes after
-      → ((M j : ℕ) → Ready t M → worth (lands t M j) p L old ≡ worth (lands t M j) p L new) → CountersKept t after counters
+  pub kept-unmoved : (old new : Option ℕ) → Paper party p L old new routes after
+      → ((M j : ℕ) → Ready t M → worth (lands t M j) party p L old ≡ worth (lands t M j) party p L new) → CountersKept t after counters
   unfolding landings
   kept-unmoved old new paper same = record {
     size = kept .size;
@@ -90,8 +90,8 @@ module _ {t : Settings} {routes after : List Route} {counters : List ℕ} (p L :
   }
 
 -- the default lands nowhere
-pub default-lands : (t : Settings) (p M j : ℕ) (o : Option ℕ) → Ready t M → worth (lands t M j) p 0 o ≡ 0
-default-lands t p M j o of-m = worth-nothing (lands t M j) p 0 o (λ hop. rw (ne-eqb 0 M (omega arith)))
+pub default-lands : (t : Settings) (party p M j : ℕ) (o : Option ℕ) → Ready t M → worth (lands t M j) party p 0 o ≡ 0
+default-lands t party p M j o of-m = worth-nothing (lands t M j) party p 0 o (λ hop. rw (ne-eqb 0 M (omega arith)))
 
 -- ---- What the tests on counters say of the routes
 
@@ -129,14 +129,14 @@ module _ (t : Settings) (routes : List Route) (counters : List ℕ) (kept : Coun
       ap (λ (n : ℕ). ltb 15 (n + count j (positions t p L))) (kept .at L j ready (positions-lt t p L ready j m)))
 
   -- no counter runs short of a stored route
-  pub never-short : (p : ℕ) {r : Route} → List·Memᴰ r routes → about p L r ≡ true → runs-short t counters p L ≡ false
+  pub never-short : (party p : ℕ) {r : Route} → List·Memᴰ r routes → about party p L r ≡ true → runs-short t counters p L ≡ false
   unfolding landings
-  never-short p {r} member own =
-      let is = about-true p L r own in
+  never-short party p {r} member own =
+      let is = about-true party p L r own in
       runs-short-at t counters p L
       ∙ any-none (λ j. ltb (getD counters (counter-place t L j) 0) (count j (positions t p L))) (positions t p L) (λ j m.
       le-ltb (getD counters (counter-place t L j) 0) (count j (positions t p L))
-      (rw (kept .at L j ready (positions-lt t p L ready j m)) (rw (is .0, is .1, eq-eqb L L refl) at (weight-within (lands t L j) member))))
+      (rw (kept .at L j ready (positions-lt t p L ready j m)) (rw (is .1, is .2, eq-eqb L L refl) at (weight-within (lands t L j) member))))
 
 -- ---- What the counters of a length sum to
 

@@ -36,8 +36,8 @@ slots-none t n size = record {
   size = length-replicate n 0 ∙ size;
   buckets = λ p L ready weight. none-below-weighs _ (t .s) (λ s l.
       let before = words-fit t p L s ready l .mark in
-      rw (getD-replicate {A = ℕ} n (mark-word (slot-number t p L s)) 0 0 (omega (arith, default-fits t))) (weigh-zero weight _));
-  default = λ weight. rw (getD-replicate {A = ℕ} n (default-word t) 0 0 (rw size (default-fits t))) (weigh-zero weight 0);
+      rw (getD-replicate {A = ℕ} n (mark-word (slot-number t p L s)) 0 0 (omega (arith, default-fits t 0 (omega arith)))) (weigh-zero weight _));
+  default = λ party known weight. rw (getD-replicate {A = ℕ} n (default-word t party) 0 0 (rw size (default-fits t party known))) (weigh-zero weight 0);
 }
 
 cleared : (t : Settings) (m : Memory) → memory-refusal t m 0 ≡ 0 → Kept t [] (zeroed m)
@@ -50,7 +50,7 @@ cleared t m e =
       counters = kept-none t (length (m .counters)) (fitted .counters-fit);
       small = λ L j ready. zero-le;
       all-fit = refl;
-      once = λ p L. zero-le;
+      once = λ party p L. zero-le;
     }
 
 -- ---- One call more
@@ -65,19 +65,19 @@ pub kept-next : {t : Settings} {routes : List Route} {m : Memory} → Kept t rou
     → Kept t (noted call (act t call m .refusal) routes) (act t call m .memory)
 unfolding act noted written word-sized clear add withdraw change unless-refused
 kept-next {t} {routes} {m} kept Clear sized = kept-or (memory-refusal t m 0) [] (zeroed m) kept (cleared t m)
-kept-next {t} {routes} {m} kept (Add p L hop) sized =
+kept-next {t} {routes} {m} kept (Add party p L hop) sized =
     let word = ltb-true p (2 ^ 32) sized in
-    kept-or _ _ _ kept (λ e. added-keeps kept p word L hop (addable t routes p L hop (sym (add-by-routes kept p L hop word) ∙ e)))
-kept-next {t} {routes} {m} kept (Withdraw p L) sized =
-    let word = ltb-true p (2 ^ 32) sized in
-    kept-or _ _ _ kept (λ e.
-    let ok = withdrawable routes p L (sym (withdraw-by-routes kept p L word) ∙ e) in
-    withdrawn-keeps kept p word L (ok .0) (ok .1))
-kept-next {t} {routes} {m} kept (Change p L hop) sized =
+    kept-or _ _ _ kept (λ e. added-keeps kept party p word L hop (addable t routes party p L hop (sym (add-by-routes kept party p L hop word) ∙ e)))
+kept-next {t} {routes} {m} kept (Withdraw party p L) sized =
     let word = ltb-true p (2 ^ 32) sized in
     kept-or _ _ _ kept (λ e.
-    let ok = changeable routes p L hop (sym (change-by-routes kept p L hop word) ∙ e) in
-    changed-keeps kept p word L hop (ok .0) (ok .1) (ok .2))
+    let ok = withdrawable routes party p L (sym (withdraw-by-routes kept party p L word) ∙ e) in
+    withdrawn-keeps kept party p word L (ok .0) (ok .1))
+kept-next {t} {routes} {m} kept (Change party p L hop) sized =
+    let word = ltb-true p (2 ^ 32) sized in
+    kept-or _ _ _ kept (λ e.
+    let ok = changeable routes party p L hop (sym (change-by-routes kept party p L hop word) ∙ e) in
+    changed-keeps kept party p word L hop (ok .0) (ok .1) (ok .2))
 
 -- ---- Calls one after the other
 

@@ -1,10 +1,12 @@
 -- The promises: demands 2 and 3 over every history (Promises), demand 1 on any memory (Refused), both of a list of addresses
--- (Lists), and worked histories (Showing) that meet their premises (Premises). What a seat shows, that what it did is a history, is in Histories. Below them is what
+-- (Lists), that a party's lookups are its own doing (Parties), and worked histories (Showing) that meet their premises
+-- (Premises). What a seat shows, that what it did is a history, is in Histories. Below them is what
 -- carries them: from sums over routes to slots and counters, to what ties a table to its routes, to the listed conditions
 -- and their numbers, histories and answers.
 pub mod Promises
 pub mod Refused
 pub mod Lists
+pub mod Parties
 pub mod Showing
 pub mod Premises
 pub mod Conditions

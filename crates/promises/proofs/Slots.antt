@@ -92,7 +92,7 @@ module _ (t : Settings) (slots : List ℕ) (p L u q mark : ℕ) (ready : Ready t
 
   fits : mark-word number < length slots
   unfolding number
-  fits = let k = words-fit t p L u ready within .mark in rw size (omega (arith, default-fits t))
+  fits = let k = words-fit t p L u ready within .mark in rw size (omega (arith, default-fits t 0 (omega arith)))
 
   slot-now : (weight : ℕ → ℕ → ℕ) → slot-weight weight written number ≡ weigh weight q mark
   unfolding slot-weight written

@@ -9,7 +9,7 @@ use lib.Dec.{ltb, leb, eqb}
 use Rattle.rules.specs.Tools.{all, any, count, those}
 use Rattle.rules.specs.declared.Settings.{Settings}
 use Rattle.rules.specs.declared.Answer.{Answer}
-use Rattle.rules.specs.Table.{prefix, positions, bucket, filter-bits, Memory, counters-size, counter-place, counter-places, slots-size, slot-number, occupied, mark-at, prefix-at, default-mark, refuse, loose, odd-prefix, from-1, hits, down-from}
+use Rattle.rules.specs.Table.{prefix, positions, bucket, filter-bits, Memory, counters-size, counter-place, counter-places, slots-size, slot-number, own, occupied, mark-at, prefix-at, default-mark, refuse, loose, odd-prefix, from-1, hits, down-from}
 use Rattle.rules.specs.Calls.{Call, Clear, Add, Withdraw, Change, Run, each}
 use Rattle.promises.specs.History.{Route, about, noted}
 
@@ -38,13 +38,14 @@ unfoldable pub every-below : (ℕ → Bool) → (n : ℕ) → Bool
 every-below test zero = true
 every-below test (suc n) = every-below test n && test n
 
--- p is stored: at length 0 the default's mark is occupied, at any other some slot of p's bucket is, with p in it
-unfoldable pub there : Settings → (slots : List ℕ) (p L : ℕ) → Bool
-there t slots p L =
-    cond (eqb L 0) (occupied (default-mark t slots))
-    (some-below (λ s. occupied (mark-at slots (slot-number t p L s)) && eqb (prefix-at slots (slot-number t p L s)) p) (t .s))
+-- p is stored for the party: at length 0 the mark of its default is the party's, at any other that of some slot of p's bucket
+-- is, with p in it
+unfoldable pub there : Settings → (slots : List ℕ) (party p L : ℕ) → Bool
+there t slots party p L =
+    cond (eqb L 0) (own party (default-mark t slots party))
+    (some-below (λ s. own party (mark-at slots (slot-number t p L s)) && eqb (prefix-at slots (slot-number t p L s)) p) (t .s))
 
--- every slot of p's bucket is occupied
+-- every slot of p's bucket is occupied, by whichever party
 unfoldable pub no-slot-left : Settings → (slots : List ℕ) (p L : ℕ) → Bool
 no-slot-left t slots p L = every-below (λ s. occupied (mark-at slots (slot-number t p L s))) (t .s)
 
@@ -59,7 +60,11 @@ memory-conditions t m =
     ∷ (2 when not (eqb (length (m .counters)) (counters-size t)) || not (eqb (length (m .slots)) (slots-size t)))
     ∷ []
 
--- what every update looks at next: the length, and the bits after it
+-- and what a call that names its party looks at next: there is no party above 1
+unfoldable pub party-conditions : Settings → Memory → (party : ℕ) → List Condition
+party-conditions t m party = memory-conditions t m ++ (15 when ltb 1 party) ∷ []
+
+-- what every update looks at then: the length, and the bits after it
 unfoldable pub route-conditions : (p L : ℕ) → List Condition
 route-conditions p L = (3 when ltb 32 L) ∷ (4 when ltb 0 (p % 2 ^ (32 - L))) ∷ []
 
@@ -72,37 +77,37 @@ odd p L =
 -- each call's conditions, in the order in which they are looked at
 unfoldable pub conditions : Settings → Call → Memory → List Condition
 conditions t Clear m = memory-conditions t m
-conditions t (Add p L hop) m =
-    memory-conditions t m
+conditions t (Add party p L hop) m =
+    party-conditions t m party
     ++ route-conditions p L
     ++ (11 when odd p L)
     ∷ (5 when ltb 65535 hop)
-    ∷ (8 when ltb 0 L && not (there t (m .slots) p L) && no-slot-left t (m .slots) p L)
-    ∷ (9 when ltb 0 L && not (there t (m .slots) p L) && any (λ i. ltb 15 (getD (m .counters) i 0 + hits t p L i)) (counter-places t p L))
+    ∷ (8 when ltb 0 L && not (there t (m .slots) party p L) && no-slot-left t (m .slots) p L)
+    ∷ (9 when ltb 0 L && not (there t (m .slots) party p L) && any (λ i. ltb 15 (getD (m .counters) i 0 + hits t p L i)) (counter-places t p L))
     ∷ []
-conditions t (Withdraw p L) m =
-    memory-conditions t m
+conditions t (Withdraw party p L) m =
+    party-conditions t m party
     ++ route-conditions p L
-    ++ (7 when not (there t (m .slots) p L))
+    ++ (7 when not (there t (m .slots) party p L))
     ∷ (10 when ltb 0 L && any (λ i. ltb (getD (m .counters) i 0) (hits t p L i)) (counter-places t p L))
     ∷ []
-conditions t (Change p L hop) m =
-    memory-conditions t m
+conditions t (Change party p L hop) m =
+    party-conditions t m party
     ++ route-conditions p L
     ++ (5 when ltb 65535 hop)
-    ∷ (7 when not (there t (m .slots) p L))
+    ∷ (7 when not (there t (m .slots) party p L))
     ∷ []
 
 -- the numbers that each call can give back, in that order
 unfoldable pub numbers-by : Call → List ℕ
 numbers-by Clear = 1 ∷ 2 ∷ []
-numbers-by (Add p L hop) = 1 ∷ 2 ∷ 3 ∷ 4 ∷ 11 ∷ 5 ∷ 8 ∷ 9 ∷ []
-numbers-by (Withdraw p L) = 1 ∷ 2 ∷ 3 ∷ 4 ∷ 7 ∷ 10 ∷ []
-numbers-by (Change p L hop) = 1 ∷ 2 ∷ 3 ∷ 4 ∷ 5 ∷ 7 ∷ []
+numbers-by (Add party p L hop) = 1 ∷ 2 ∷ 15 ∷ 3 ∷ 4 ∷ 11 ∷ 5 ∷ 8 ∷ 9 ∷ []
+numbers-by (Withdraw party p L) = 1 ∷ 2 ∷ 15 ∷ 3 ∷ 4 ∷ 7 ∷ 10 ∷ []
+numbers-by (Change party p L hop) = 1 ∷ 2 ∷ 15 ∷ 3 ∷ 4 ∷ 5 ∷ 7 ∷ []
 
--- what a list of addresses looks at: settings and sizes as every call, and then how many results there are
-unfoldable pub list-conditions : Settings → Memory → (addresses results : List ℕ) → List Condition
-list-conditions t m addresses results = memory-conditions t m ++ (18 when not (eqb (length results) (4 * length addresses))) ∷ []
+-- what a list of addresses looks at: settings, sizes and party as a lookup, and then how many results there are
+unfoldable pub list-conditions : Settings → Memory → (party : ℕ) (addresses results : List ℕ) → List Condition
+list-conditions t m party addresses results = party-conditions t m party ++ (18 when not (eqb (length results) (4 * length addresses))) ∷ []
 
 -- none of the conditions is met
 abbrev pub NoneMet : List Condition → Type 0
@@ -224,35 +229,40 @@ landings t routes L j = sum (λ r. cond (eqb (r .length) L) (count j (positions 
 unfoldable pub overflows : Settings → List Route → (p L : ℕ) → Bool
 overflows t routes p L = any (λ j. ltb 15 (landings t routes L j + count j (positions t p L))) (positions t p L)
 
--- p needs a place: the default has one, and so has a route that is stored
-unfoldable pub needs-place : List Route → (p L : ℕ) → Bool
-needs-place routes p L = from-1 L (not (exists (about p L) routes))
+-- p needs a place: the default has one, and so has a route that the party has stored
+unfoldable pub needs-place : List Route → (party p L : ℕ) → Bool
+needs-place routes party p L = from-1 L (not (exists (about party p L) routes))
 
--- the conditions of each update in the listed order, with their numbers
-unfoldable pub add-number : Settings → List Route → (p L hop : ℕ) → ℕ
-add-number t routes p L hop =
-    refuse (ltb 32 L) 3
+-- the conditions of each update in the listed order, with their numbers: 8 and 9 look at both parties' routes
+unfoldable pub add-number : Settings → List Route → (party p L hop : ℕ) → ℕ
+add-number t routes party p L hop =
+    refuse (ltb 1 party) 15
+    (refuse (ltb 32 L) 3
     (refuse (loose p L) 4
     (refuse (odd-prefix p L) 11
     (refuse (ltb 65535 hop) 5
-    (refuse (needs-place routes p L && crowded t routes p L) 8 (refuse (needs-place routes p L && overflows t routes p L) 9 0)))))
+    (refuse (needs-place routes party p L && crowded t routes p L) 8
+    (refuse (needs-place routes party p L && overflows t routes p L) 9 0))))))
 
 -- those of a withdrawal
-unfoldable pub withdraw-number : List Route → (p L : ℕ) → ℕ
-withdraw-number routes p L = refuse (ltb 32 L) 3 (refuse (loose p L) 4 (refuse (not (exists (about p L) routes)) 7 0))
+unfoldable pub withdraw-number : List Route → (party p L : ℕ) → ℕ
+withdraw-number routes party p L =
+    refuse (ltb 1 party) 15
+    (refuse (ltb 32 L) 3 (refuse (loose p L) 4 (refuse (not (exists (about party p L) routes)) 7 0)))
 
 -- and those of a change
-unfoldable pub change-number : List Route → (p L hop : ℕ) → ℕ
-change-number routes p L hop =
-    refuse (ltb 32 L) 3
-    (refuse (loose p L) 4 (refuse (ltb 65535 hop) 5 (refuse (not (exists (about p L) routes)) 7 0)))
+unfoldable pub change-number : List Route → (party p L hop : ℕ) → ℕ
+change-number routes party p L hop =
+    refuse (ltb 1 party) 15
+    (refuse (ltb 32 L) 3
+    (refuse (loose p L) 4 (refuse (ltb 65535 hop) 5 (refuse (not (exists (about party p L) routes)) 7 0))))
 
 -- what a call is given; a clear is always accepted
 unfoldable pub number-given : Settings → List Route → Call → ℕ
 number-given t routes Clear = 0
-number-given t routes (Add p L hop) = add-number t routes p L hop
-number-given t routes (Withdraw p L) = withdraw-number routes p L
-number-given t routes (Change p L hop) = change-number routes p L hop
+number-given t routes (Add party p L hop) = add-number t routes party p L hop
+number-given t routes (Withdraw party p L) = withdraw-number routes party p L
+number-given t routes (Change party p L hop) = change-number routes party p L hop
 
 -- calls one after the other on paper alone, with no memory in sight: what each is given, and the routes that they leave
 unfoldable pub paper : Settings → List Route → List Call → Run (List Route)
@@ -282,9 +292,9 @@ lengths-in-use routes = length (those (in-use routes) (down-from 32))
 
 -- ---- Adding routes anew
 
--- each route added once, in the list's order
+-- each route added once for its party, in the list's order
 unfoldable pub adds : List Route → List Call
-adds routes = map (λ r. Add (r .prefix) (r .length) (r .hop)) routes
+adds routes = map (λ r. Add (r .party) (r .prefix) (r .length) (r .hop)) routes
 
 -- ---- Counters
 

@@ -11,32 +11,46 @@ use Rattle.rules.specs.Calls.{Call, Clear, Add, Withdraw, Change, all-word-size
 
 -- ---- The routes on paper
 
--- a route as it stands on paper; that of length 0 is the default
+-- a route as it stands on paper, with the party whose it is; that of length 0 is the party's default
 pub record Route : Type 0 where
+  pub party : ℕ
   pub prefix : ℕ
   pub length : ℕ
   pub hop : ℕ
 
--- the route is about this prefix of this length
-unfoldable pub about : (p L : ℕ) → Route → Bool
-about p L r = eqb (r .prefix) p && eqb (r .length) L
+-- the route is the party's
+unfoldable pub of-party : (party : ℕ) → Route → Bool
+of-party party r = eqb (r .party) party
+
+-- the party's own routes, in their order
+unfoldable pub routes-of : (party : ℕ) → List Route → List Route
+routes-of party [] = []
+routes-of party (r ∷ routes) = cond (of-party party r) (r ∷ routes-of party routes) (routes-of party routes)
+
+-- the route is the party's and about this prefix of this length
+unfoldable pub about : (party p L : ℕ) → Route → Bool
+about party p L r = of-party party r && (eqb (r .prefix) p && eqb (r .length) L)
 
 -- the routes that are not about it
-unfoldable pub without : (p L : ℕ) → List Route → List Route
-without p L [] = []
-without p L (r ∷ routes) = cond (about p L r) (without p L routes) (r ∷ without p L routes)
+unfoldable pub without : (party p L : ℕ) → List Route → List Route
+without party p L [] = []
+without party p L (r ∷ routes) = cond (about party p L r) (without party p L routes) (r ∷ without party p L routes)
+
+-- a route of the party's
+abbrev pub route : (party p L hop : ℕ) → Route
+route party p L hop = record { party = party; prefix = p; length = L; hop = hop }
 
 -- the routes, with a new hop in the one that is about it
-unfoldable pub with-hop : (p L hop : ℕ) → List Route → List Route
-with-hop p L hop routes = map (λ r. cond (about p L r) (record { prefix = p; length = L; hop = hop }) r) routes
+unfoldable pub with-hop : (party p L hop : ℕ) → List Route → List Route
+with-hop party p L hop routes = map (λ r. cond (about party p L r) (route party p L hop) r) routes
 
--- what an accepted call does to the routes on paper; a route that is added stands instead of any that is about its
--- prefix and length, so that the last accepted hop is the one stored
+-- what an accepted call does to the routes on paper; a route that is added stands instead of any of its party's that is
+-- about its prefix and length, so that the last accepted hop is the one stored; a clear empties both parties' paper
 unfoldable pub written : Call → List Route → List Route
 written Clear routes = []
-written (Add p L hop) routes = record { prefix = p; length = L; hop = hop } ∷ without p L routes
-written (Withdraw p L) routes = without p L routes
-written (Change p L hop) routes = with-hop p L hop routes
+written (Add party p L hop) routes = route party p L hop ∷ without party p L routes
+written (Withdraw party p L) routes = without party p L routes
+written (Change party p L hop) routes = with-hop party p L hop routes
 
 -- a refused call leaves the paper as it was
 unfoldable pub noted : Call → (refusal : ℕ) → List Route → List Route

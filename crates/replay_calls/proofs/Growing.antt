@@ -64,19 +64,19 @@ more-low {tally} {bytes} after applied answers few =
 
 -- ---- All records
 
-module _ (t : Settings) (hops : List ℕ) where
-  reads : (w : Work Tally) (bytes : List ℕ) {taken : ℕ} → LowAfter (w .counts) taken → LowAfter (record-done t (replaying hops) w bytes .leaves .counts) (taken + 1)
+module _ (t : Settings) (party : ℕ) (hops : List ℕ) where
+  reads : (w : Work Tally) (bytes : List ℕ) {taken : ℕ} → LowAfter (w .counts) taken → LowAfter (record-done t (replaying party hops) w bytes .leaves .counts) (taken + 1)
   unfolding replaying run
   reads w bytes {taken} low = go (record-bad bytes) refl
     where
-      few : length (run t (w .memory) (record-calls bytes hops) .answers) ≤ 4096
-      few = rw answers-length (record-calls-few bytes hops)
+      few : length (run t (w .memory) (record-calls party bytes hops) .answers) ≤ 4096
+      few = rw answers-length (record-calls-few party bytes hops)
 
-      go : (bad : Bool) → record-bad bytes ≡ bad → LowAfter (record-done t (replaying hops) w bytes .leaves .counts) (taken + 1)
-      go true e = rw (record-ends t (replaying hops) w bytes (rw e (λ same. omega arith))) (after-within low (omega arith))
-      go false e = rw (record-counts t (replaying hops) w bytes (rw e)) (more-low low (is-applied bytes hops) _ few)
+      go : (bad : Bool) → record-bad bytes ≡ bad → LowAfter (record-done t (replaying party hops) w bytes .leaves .counts) (taken + 1)
+      go true e = rw (record-ends t (replaying party hops) w bytes (rw e (λ same. omega arith))) (after-within low (omega arith))
+      go false e = rw (record-counts t (replaying party hops) w bytes (rw e)) (more-low low (is-applied bytes hops) _ few)
 
-  pub grows : Grows t (replaying hops) LowAfter
+  pub grows : Grows t (replaying party hops) LowAfter
   unfolding replaying
   grows = record {
     within = after-within;

@@ -55,33 +55,33 @@ at-most-one false = omega arith
 
 -- ---- By whether it ends the replay, and is applied
 
-module _ (t : Settings) (hops bytes counters slots : List ℕ) where
+module _ (t : Settings) (party : ℕ) (hops bytes counters slots : List ℕ) where
   abbrev made : Run Memory
-  made = run t (lent counters slots) (record-calls bytes hops)
+  made = run t (lent counters slots) (record-calls party bytes hops)
 
   module _ {counters' slots' : List ℕ} where
     -- it does not end the replay: what is noted is what its calls were given
     noted : record-bad bytes ≡ false → {applied : Bool} → is-applied bytes hops ≡ applied → {counts : Counts} → OfOne counts
         → ((earlier : Tally) → tally-added earlier (cond applied 1 0) counts ≡ tally-more earlier applied (made .answers)) → made .last ≡ lent counters' slots'
-        → RecordReplayed t hops bytes counters slots (Seen (cond applied 1 0) counts) counters' slots'
+        → RecordReplayed t party hops bytes counters slots (Seen (cond applied 1 0) counts) counters' slots'
     unfolding replaying replayed-to
     noted sound {applied} is few adds last = record {
-      done = λ earlier. record-counts t (replaying hops) (work earlier counters slots) bytes (rw sound) ∙ rw (is, last, adds earlier);
+      done = λ earlier. record-counts t (replaying party hops) (work earlier counters slots) bytes (rw sound) ∙ rw (is, last, adds earlier);
       one = λ same. subst (λ n. n ≤ 1) (same-applied same) (at-most-one applied);
       few = λ same. subst OfOne (same-counts same) few;
     }
 
     -- it is only seen
     seen : record-bad bytes ≡ false → is-applied bytes hops ≡ false → lent counters slots ≡ lent counters' slots'
-        → {answer : Replayed} → answer ≡ only-seen → RecordReplayed t hops bytes counters slots answer counters' slots'
+        → {answer : Replayed} → answer ≡ only-seen → RecordReplayed t party hops bytes counters slots answer counters' slots'
     unfolding record-calls run each
     seen sound unapplied same is = rw is (noted sound unapplied of-none (rw unapplied added-none) (rw unapplied same))
 
     -- it ends the replay with 12
-    ends : record-bad bytes ≡ true → lent counters slots ≡ lent counters' slots' → RecordReplayed t hops bytes counters slots Fault counters' slots'
+    ends : record-bad bytes ≡ true → lent counters slots ≡ lent counters' slots' → RecordReplayed t party hops bytes counters slots Fault counters' slots'
     unfolding replaying replayed-to
     ends bad same = record {
-      done = λ earlier. record-ends t (replaying hops) (work earlier counters slots) bytes (rw bad (λ e. omega arith)) ∙ rw (bad, same);
+      done = λ earlier. record-ends t (replaying party hops) (work earlier counters slots) bytes (rw bad (λ e. omega arith)) ∙ rw (bad, same);
       one = λ is. absurd (never is);
       few = λ is. absurd (never is);
     }
@@ -89,40 +89,40 @@ module _ (t : Settings) (hops bytes counters slots : List ℕ) where
     -- ---- By what it holds
 
     -- something else than an UPDATE of IPv4
-    pub other-done : HeldTold bytes held.Other → {answer : Replayed} → answer ≡ only-seen → lent counters slots ≡ lent counters' slots' → RecordReplayed t hops bytes counters slots answer counters' slots'
+    pub other-done : HeldTold bytes held.Other → {answer : Replayed} → answer ≡ only-seen → lent counters slots ≡ lent counters' slots' → RecordReplayed t party hops bytes counters slots answer counters' slots'
     unfolding record-bad is-applied
     other-done told is same = seen (rw (told .0, told .1)) (rw (told .1)) same is
 
     -- less than it should
-    pub short-done : HeldTold bytes held.Fault → lent counters slots ≡ lent counters' slots' → RecordReplayed t hops bytes counters slots Fault counters' slots'
+    pub short-done : HeldTold bytes held.Fault → lent counters slots ≡ lent counters' slots' → RecordReplayed t party hops bytes counters slots Fault counters' slots'
     unfolding record-bad
     short-done told same = ends (rw told) same
 
     module _ {at : ℕ} (told : UpdateTold bytes at) where
       -- an UPDATE that is applied
-      pub update-applied : memory-refusal t (lent counters slots) 0 ≡ 0 → {counts : Counts}
-          → update-done t (lent counters slots) (message-of bytes) hops ≡ applied-to (applied.Good counts) counters' slots' → RecordReplayed t hops bytes counters slots (Seen 1 counts) counters' slots'
+      pub update-applied : memory-refusal t (lent counters slots) 0 ≡ 0 → party ≤ 1 → {counts : Counts}
+          → update-done t (lent counters slots) party (message-of bytes) hops ≡ applied-to (applied.Good counts) counters' slots' → RecordReplayed t party hops bytes counters slots (Seen 1 counts) counters' slots'
       unfolding record-bad is-applied record-calls run
-      update-applied fits done =
-          let good = good-told t (lent counters slots) (message-of bytes) hops done in
+      update-applied fits known done =
+          let good = good-told t (lent counters slots) party (message-of bytes) hops done in
           let applied : is-applied bytes hops ≡ true = rw (told .update, good .passed) in
-          let few : length (run t (lent counters slots) (message-calls (message-of bytes) hops) .answers) ≤ 4096 = rw answers-length (calls-few (message-of bytes) hops (good .passed)) in
+          let few : length (run t (lent counters slots) (message-calls party (message-of bytes) hops) .answers) ≤ 4096 = rw answers-length (calls-few party (message-of bytes) hops (good .passed)) in
           noted (rw (told .long, told .update, formed (message-of bytes) hops (λ e. omega (arith, good .passed)))) applied
           (rw (good .counted) (of-one _ few))
-          (λ earlier. rw applied (added-more earlier true _ _ (good .counted) (message-answers t (lent counters slots) (message-of bytes) hops fits (good .passed))))
+          (λ earlier. rw applied (added-more earlier true _ _ (good .counted) (message-answers t (lent counters slots) party (message-of bytes) hops fits known (good .passed))))
           (rw applied (good .last))
 
       -- one that announces without a hop
-      pub update-hopless : update-done t (lent counters slots) (message-of bytes) hops ≡ applied-to applied.Hopless counters' slots'
-          → {answer : Replayed} → answer ≡ only-seen → RecordReplayed t hops bytes counters slots answer counters' slots'
+      pub update-hopless : update-done t (lent counters slots) party (message-of bytes) hops ≡ applied-to applied.Hopless counters' slots'
+          → {answer : Replayed} → answer ≡ only-seen → RecordReplayed t party hops bytes counters slots answer counters' slots'
       unfolding record-bad is-applied
       update-hopless done is =
-          let hopless = hopless-told t (lent counters slots) (message-of bytes) hops done in
+          let hopless = hopless-told t (lent counters slots) party (message-of bytes) hops done in
           seen (rw (told .long, told .update, formed (message-of bytes) hops (λ e. omega (arith, hopless .refused)))) (rw (told .update, hopless .refused)) (hopless .same) is
 
       -- one that is not well-formed
-      pub update-fault : update-done t (lent counters slots) (message-of bytes) hops ≡ applied-to applied.Fault counters' slots' → RecordReplayed t hops bytes counters slots Fault counters' slots'
+      pub update-fault : update-done t (lent counters slots) party (message-of bytes) hops ≡ applied-to applied.Fault counters' slots' → RecordReplayed t party hops bytes counters slots Fault counters' slots'
       unfolding record-bad
       update-fault done =
-          let fault = fault-told t (lent counters slots) (message-of bytes) hops done in
+          let fault = fault-told t (lent counters slots) party (message-of bytes) hops done in
           ends (rw (told .long, told .update, ill-formed (message-of bytes) hops (fault .refused))) (fault .same)

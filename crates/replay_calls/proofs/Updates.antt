@@ -43,53 +43,53 @@ module _ (message hops : List ℕ) where
 -- ---- What each answer tells
 
 -- its calls were made and counted
-pub record GoodTold (t : Settings) (m : Memory) (message hops : List ℕ) (counts : Counts) (left : Memory) : Type 0 where
+pub record GoodTold (t : Settings) (m : Memory) (party : ℕ) (message hops : List ℕ) (counts : Counts) (left : Memory) : Type 0 where
   pub passed : update-refusal message hops ≡ 0
-  pub counted : counts ≡ tallied none-counted (run t m (message-calls message hops) .answers)
-  pub last : run t m (message-calls message hops) .last ≡ left
+  pub counted : counts ≡ tallied none-counted (run t m (message-calls party message hops) .answers)
+  pub last : run t m (message-calls party message hops) .last ≡ left
 
 -- it was refused with a number, and nothing was done
 pub record RefusedTold (m : Memory) (message hops : List ℕ) (number : ℕ) (left : Memory) : Type 0 where
   pub refused : update-refusal message hops ≡ number
   pub same : m ≡ left
 
-module _ (t : Settings) (m : Memory) (message hops : List ℕ) where
+module _ (t : Settings) (m : Memory) (party : ℕ) (message hops : List ℕ) where
   accepted : update-refusal message hops ≡ 0
-      → update-done t m message hops ≡ record { refusal = 0; walk = walked t m none-counted (message-calls message hops) }
+      → update-done t m party message hops ≡ record { refusal = 0; walk = walked t m none-counted (message-calls party message hops) }
   unfolding update-done
   accepted none = rw none
 
   refused : update-refusal message hops ≢ 0
-      → update-done t m message hops ≡ record { refusal = update-refusal message hops; walk = record { counts = none-counted; memory = m } }
+      → update-done t m party message hops ≡ record { refusal = update-refusal message hops; walk = record { counts = none-counted; memory = m } }
   unfolding update-done
   refused some = rw (ne-eqb _ _ some)
 
   -- the number is the one that refuses it
-  same-number : update-done t m message hops .refusal ≡ update-refusal message hops
+  same-number : update-done t m party message hops .refusal ≡ update-refusal message hops
   same-number = go (eqb (update-refusal message hops) 0) refl
     where
-      go : (none : Bool) → eqb (update-refusal message hops) 0 ≡ none → update-done t m message hops .refusal ≡ update-refusal message hops
+      go : (none : Bool) → eqb (update-refusal message hops) 0 ≡ none → update-done t m party message hops .refusal ≡ update-refusal message hops
       go true e = rw (accepted (eqb-true _ _ e)) (sym (eqb-true _ _ e))
       go false e = rw (refused (eqb-false _ _ e))
 
   told-refused : {number : ℕ} → number ≢ 0 → {left : Memory}
-      → update-done t m message hops ≡ record { refusal = number; walk = record { counts = none-counted; memory = left } } → RefusedTold m message hops number left
+      → update-done t m party message hops ≡ record { refusal = number; walk = record { counts = none-counted; memory = left } } → RefusedTold m message hops number left
   told-refused some done =
       let is = sym same-number ∙ ap (λ u. u .refusal) done in
       record { refused = is; same = ap (λ u. u .walk .memory) (sym (refused (λ none. some (sym is ∙ none))) ∙ done) }
 
   module _ {counters slots : List ℕ} where
-    pub good-told : {counts : Counts} → update-done t m message hops ≡ applied-to (Good counts) counters slots → GoodTold t m message hops counts (lent counters slots)
+    pub good-told : {counts : Counts} → update-done t m party message hops ≡ applied-to (Good counts) counters slots → GoodTold t m party message hops counts (lent counters slots)
     unfolding applied-to walked
     good-told done =
         let passed = sym same-number ∙ ap (λ u. u .refusal) done in
         let walk = sym (accepted passed) ∙ done in
         record { passed = passed; counted = sym (ap (λ u. u .walk .counts) walk); last = ap (λ u. u .walk .memory) walk }
 
-    pub hopless-told : update-done t m message hops ≡ applied-to Hopless counters slots → RefusedTold m message hops 13 (lent counters slots)
+    pub hopless-told : update-done t m party message hops ≡ applied-to Hopless counters slots → RefusedTold m message hops 13 (lent counters slots)
     unfolding applied-to
     hopless-told = told-refused (omega arith)
 
-    pub fault-told : update-done t m message hops ≡ applied-to Fault counters slots → RefusedTold m message hops 12 (lent counters slots)
+    pub fault-told : update-done t m party message hops ≡ applied-to Fault counters slots → RefusedTold m message hops 12 (lent counters slots)
     unfolding applied-to
     fault-told = told-refused (omega arith)

@@ -27,8 +27,8 @@ replayed-to earlier Fault counters slots =
     record { number = 12; leaves = work earlier counters slots }
 
 -- what a record did, whatever was tallied before it; what is noted of it are the figures of one record
-pub record RecordReplayed (t : Settings) (hops bytes counters slots : List ℕ) (answer : Replayed) (counters' slots' : List ℕ) : Type 0 where
-  pub done : (earlier : Tally) → record-done t (replaying hops) (work earlier counters slots) bytes ≡ replayed-to earlier answer counters' slots'
+pub record RecordReplayed (t : Settings) (party : ℕ) (hops bytes counters slots : List ℕ) (answer : Replayed) (counters' slots' : List ℕ) : Type 0 where
+  pub done : (earlier : Tally) → record-done t (replaying party hops) (work earlier counters slots) bytes ≡ replayed-to earlier answer counters' slots'
   pub one : {applied : ℕ} {counts : Counts} → answer ≡ Seen applied counts → applied ≤ 1
   pub few : {applied : ℕ} {counts : Counts} → answer ≡ Seen applied counts → OfOne counts
 

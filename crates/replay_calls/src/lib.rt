@@ -75,6 +75,7 @@ fn replay_record(
     settings: Settings,
     counters: &mut [u8],
     slots: &mut [u32],
+    party: u32,
     room: &[u8],
     size: usize,
     hops: &[u32],
@@ -82,13 +83,14 @@ fn replay_record(
     requires { ⌜ in-range settings ≡ true ⌝ }
     requires { ⌜ Counters settings (now counters) ⌝ }
     requires { ⌜ Slots settings (now slots) ⌝ }
+    requires { ⌜ party ≤ 1 ⌝ }
     requires { ⌜ size ≤ length (now room) ⌝ }
-    ensures { λ r. ⌜ RecordReplayed settings (now (hops .entry)) (take size (now (room .entry))) (now (counters .entry)) (now (slots .entry)) r (now (counters .exit)) (now (slots .exit)) ⌝ }
+    ensures { λ r. ⌜ RecordReplayed settings party (now (hops .entry)) (take size (now (room .entry))) (now (counters .entry)) (now (slots .entry)) r (now (counters .exit)) (now (slots .exit)) ⌝ }
 {
     let bytes = &room[..size];
     match read_record(bytes) {
         Held::Update { at } => {
-            match apply_update(settings, counters, slots, &bytes[at..], hops) {
+            match apply_update(settings, counters, slots, party, &bytes[at..], hops) {
                 Applied::Good(counts) => Replayed::Seen { applied: 1, counts },
                 Applied::Hopless => only_seen(),
                 Applied::Fault => Replayed::Fault,
@@ -104,6 +106,7 @@ fn take_chunk(
     settings: Settings,
     counters: &mut [u8],
     slots: &mut [u32],
+    party: u32,
     hops: &[u32],
     earlier: Tally,
     begun: Stage,
@@ -113,10 +116,11 @@ fn take_chunk(
     requires { ⌜ in-range settings ≡ true ⌝ }
     requires { ⌜ Counters settings (now counters) ⌝ }
     requires { ⌜ Slots settings (now slots) ⌝ }
+    requires { ⌜ party ≤ 1 ⌝ }
     requires { ⌜ Low earlier 0 ⌝ }
     requires { ⌜ Sound begun ⌝ }
     requires { ⌜ length (now chunk) ≤ 65536 ⌝ }
-    ensures { λ r. ⌜ chunk-taken day-kind (doing settings (replaying (now (hops .entry)))) (stream begun (now (room .entry)) (work earlier (now (counters .entry)) (now (slots .entry)))) (now (chunk .entry)) ≡ taken-to r (now (room .exit)) (now (counters .exit)) (now (slots .exit)) ⌝ }
+    ensures { λ r. ⌜ chunk-taken day-kind (doing settings (replaying party (now (hops .entry)))) (stream begun (now (room .entry)) (work earlier (now (counters .entry)) (now (slots .entry)))) (now (chunk .entry)) ≡ taken-to r (now (room .exit)) (now (counters .exit)) (now (slots .exit)) ⌝ }
     ensures { λ r. ⌜ Sound (r .stage) ⌝ }
 {
     let mut stage = begun;
@@ -132,7 +136,7 @@ fn take_chunk(
                 return Taken { stage, tally };
             }
             Event::Record { size } => {
-                match replay_record(settings, counters, slots, room, size, hops) {
+                match replay_record(settings, counters, slots, party, room, size, hops) {
                     Replayed::Seen { applied, counts } => {
                         tally = noted(tally, applied, counts);
                     }
@@ -156,27 +160,38 @@ pub fn replay_chunk(
     settings: Settings,
     counters: &mut [u8],
     slots: &mut [u32],
+    party: u32,
     hops: &[u32],
     tally: &mut [u32; 23],
     words: &mut [u32; 3],
     room: &mut [u8; 65548],
     chunk: &[u8],
 ) -> u32
-    ensures { λ r. ⌜ replay-chunk settings (lent (now (counters .entry)) (now (slots .entry))) (now (hops .entry)) (now (tally .entry)) (now (words .entry)) (now (room .entry)) (now (chunk .entry)) ≡ chunked r (now (tally .exit)) (now (words .exit)) (now (room .exit)) (now (counters .exit)) (now (slots .exit)) ⌝ }
+    ensures { λ r. ⌜ replay-chunk settings (lent (now (counters .entry)) (now (slots .entry))) party (now (hops .entry)) (now (tally .entry)) (now (words .entry)) (now (room .entry)) (now (chunk .entry)) ≡ chunked r (now (tally .exit)) (now (words .exit)) (now (room .exit)) (now (counters .exit)) (now (slots .exit)) ⌝ }
 {
     let ended = words[0];
     let begun = stage_of(day_kind(), words, room);
     let number = number_of(begun);
     let earlier = tally_of(tally);
     let high = tally_high(earlier);
-    let refusal = refuse_chunk(settings, counters, slots, high, chunk);
+    let refusal = refuse_chunk(settings, counters, slots, party, high, chunk);
     if ended != 0 {
         return number;
     }
     if refusal != 0 {
         return refusal;
     }
-    let taken = take_chunk(settings, counters, slots, hops, earlier, begun, room, chunk);
+    let taken = take_chunk(
+        settings,
+        counters,
+        slots,
+        party,
+        hops,
+        earlier,
+        begun,
+        room,
+        chunk,
+    );
     let stage = taken.stage;
     keep_tally(taken.tally, tally);
     keep_stage(stage, words);

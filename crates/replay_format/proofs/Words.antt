@@ -17,8 +17,8 @@ drop-bytes bytes small zero = small
 drop-bytes [] small (suc n) = refl
 drop-bytes (a ∷ bytes) small (suc n) = drop-bytes bytes (both (ltb a 256) _ small .1) n
 
-pub record-words : (bytes hops : List ℕ) → areBytes bytes ≡ true → all-word-sized (record-calls bytes hops) ≡ true
+pub record-words : (party : ℕ) (bytes hops : List ℕ) → areBytes bytes ≡ true → all-word-sized (record-calls party bytes hops) ≡ true
 unfolding record-calls message-of all-word-sized
-record-words bytes hops small = cases (is-applied bytes hops)
-    (λ applied. rw applied (message-words (message-of bytes) hops (drop-bytes bytes small (message-from bytes))))
+record-words party bytes hops small = cases (is-applied bytes hops)
+    (λ applied. rw applied (message-words party (message-of bytes) hops (drop-bytes bytes small (message-from bytes))))
     (λ other. rw other)

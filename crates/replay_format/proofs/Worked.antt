@@ -3,7 +3,7 @@ use Prim.Native.Nat.{ℕ, _+_}
 use mathlib.Core.Path.{_≡_, refl}
 use mathlib.Core.Bool.{true}
 use mathlib.Core.List.{List, [], _∷_, map, _++_}
-use lib.ListN.{length, take, drop, set, replicate}
+use lib.ListN.{getD, length, take, drop, set, replicate}
 use Rattle.rules.specs.declared.Settings.{Settings}
 use Rattle.rules.specs.Tools.{fed}
 use Rattle.rules.specs.Table.{Memory, add, withdraw, lookup, one-if}
@@ -113,7 +113,7 @@ room = replicate 100 0
 
 -- a chunk that begins a stream, on this table
 abbrev over : Memory → (chunk : List ℕ) → Chunked
-over m chunk = replay-chunk T m hops none (three 0 0 0) room chunk
+over m chunk = replay-chunk T m 0 hops none (three 0 0 0) room chunk
 
 -- on a cleared one
 abbrev begun : (chunk : List ℕ) → Chunked
@@ -121,7 +121,7 @@ begun chunk = over (empty T) chunk
 
 -- a chunk after another
 abbrev then : Chunked → (chunk : List ℕ) → Chunked
-then i chunk = replay-chunk T (i .memory) hops (i .counts) (i .words) (i .room) chunk
+then i chunk = replay-chunk T (i .memory) 0 hops (i .counts) (i .words) (i .room) chunk
 
 -- the end after it
 abbrev ended : Chunked → Chunked
@@ -141,11 +141,11 @@ leaves number tally words m front = number ∷ tally ++ words ++ m .counters ++ 
 
 -- a table of settings T that holds 10.1/16 with hop 9
 abbrev held : Memory
-held = add T (empty T) (ip 10 1 0 0) 16 9 .memory
+held = add T (empty T) 0 (ip 10 1 0 0) 16 9 .memory
 
 -- that table once the worked UPDATE is applied, and the cleared one
 abbrev updated : Memory → Memory
-updated m = add T (add T (withdraw T m (ip 10 1 0 0) 16 .memory) (ip 192 0 2 0) 24 1 .memory) 0 0 1 .memory
+updated m = add T (add T (withdraw T m 0 (ip 10 1 0 0) 16 .memory) 0 (ip 192 0 2 0) 24 1 .memory) 0 0 0 1 .memory
 
 -- a record that begins a stream is seen, and does nothing to a table that holds a route
 abbrev only-seen : (bytes : List ℕ) → Case
@@ -177,11 +177,11 @@ one-by-one i (b ∷ bytes) = one-by-one (then i (b ∷ [])) bytes
 -- a chunk is given a number, and all is as it was
 abbrev not-taken : (number : ℕ) (tally words chunk : List ℕ) → Case
 not-taken number tally words chunk =
-    case (told (replay-chunk T held hops tally words room chunk)) (leaves number tally words held [])
+    case (told (replay-chunk T held 0 hops tally words room chunk)) (leaves number tally words held [])
 
 -- a chunk on memory with a counter too few
 abbrev over-511 : Settings → (tally : List ℕ) → Chunked
-over-511 t tally = replay-chunk t (record { counters = sevens 511; slots = sevens 257 }) hops tally (three 0 0 0) room sample
+over-511 t tally = replay-chunk t (record { counters = sevens 511; slots = sevens 258 }) 0 hops tally (three 0 0 0) room sample
 
 -- settings with all multipliers zero, under which every route has the same bucket and the same counter; and four routes
 abbrev crowded : Settings
@@ -202,10 +202,10 @@ applied =
     -- R2: its UPDATE is applied: three routes are accepted, and 192.0.2.7 is then found; on a cleared table its withdrawal is
     -- refused under 7
     ∷ case (told (over held sample)) (leaves 0 (tally 1 1 3) (three 0 0 0) (updated held) sample)
-    ∷ case (figures (lookup T (over held sample .memory) (ip 192 0 2 7))) (finds 1 24 1)
+    ∷ case (figures (lookup T (over held sample .memory) 0 (ip 192 0 2 7))) (finds 1 24 1)
     ∷ case (told (begun sample)) (leaves 0 (refusing 1 1 2 1 0 0 0 0) (three 0 0 0) (updated (empty T)) sample)
     -- in lent room of its true size too
-    ∷ case (told (replay-chunk T held hops none (three 0 0 0) (sevens 65548) sample)) (numbers (over held sample) ++ updated held .counters ++ updated held .slots ++ sample ++ sevens 65471)
+    ∷ case (told (replay-chunk T held 0 hops none (three 0 0 0) (sevens 65548) sample)) (numbers (over held sample) ++ updated held .counters ++ updated held .slots ++ sample ++ sevens 65471)
     -- R3: so it is in subtype 1
     ∷ case (told (over held (holding-short update))) (leaves 0 (tally 1 1 3) (three 0 0 0) (updated held) (holding-short update))
     -- R4: an UPDATE that says nothing is applied, and has no route
@@ -215,7 +215,7 @@ applied =
     ∷ case (numbers (begun (holding (updating (16 ∷ 10 ∷ 1 ∷ 16 ∷ 10 ∷ 2 ∷ []) 1 (8 ∷ 10 ∷ 8 ∷ 8 ∷ 8 ∷ 9 ∷ 8 ∷ 127 ∷ 8 ∷ 192 ∷ []))))) (0 ∷ refusing 1 1 3 2 1 0 0 1 ++ three 0 0 0)
     -- R6: three routes bring a counter to 15, and a fourth is refused under 9; with the counters at 0 the withdrawal of a stored
     -- route is refused under 10
-    ∷ case (numbers (replay-chunk crowded (empty crowded) hops none (three 0 0 0) room (holding (updating [] 1 four-hosts)))) (0 ∷ refusing 1 1 3 0 0 1 0 0 ++ three 0 0 0)
+    ∷ case (numbers (replay-chunk crowded (empty crowded) 0 hops none (three 0 0 0) room (holding (updating [] 1 four-hosts)))) (0 ∷ refusing 1 1 3 0 0 1 0 0 ++ three 0 0 0)
     ∷ case (numbers (over (record { counters = empty T .counters; slots = held .slots }) (holding withdrawing))) (0 ∷ refusing 1 1 0 0 0 0 1 0 ++ three 0 0 0)
     -- R7: a tally goes on from what was tallied before, in one chunk and in the next
     ∷ case (numbers (then (over held (sample ++ holding keepalive)) (sample ++ holding end-of-routes))) (0 ∷ refusing 4 3 5 1 0 0 0 0 ++ three 0 0 0)
@@ -317,7 +317,7 @@ untaken : List Case
 untaken =
     -- R21: a figure above 4,000,000,000, whichever it is; at 4,000,000,000 the chunk is taken
     map (λ place. not-taken 19 (set none place 4000000001) (three 0 0 0) sample) (0 ∷ 1 ∷ 2 ∷ 3 ∷ 10 ∷ 14 ∷ 22 ∷ [])
-    ++ case (numbers (replay-chunk T held hops (replicate 23 4000000000) (three 0 0 0) room sample)) (0 ∷ 4000000001 ∷ 4000000001 ∷ 4000000003 ∷ replicate 20 4000000000 ++ three 0 0 0)
+    ++ case (numbers (replay-chunk T held 0 hops (replicate 23 4000000000) (three 0 0 0) room sample)) (0 ∷ 4000000001 ∷ 4000000001 ∷ 4000000003 ∷ replicate 20 4000000000 ++ three 0 0 0)
     -- R22: the end goes before 19, 19 before 1, and 1 before 2
     ∷ not-taken 14 (set none 22 4000000001) (three 15 0 0) sample
     ∷ case (numbers (over-511 (settings 9 4 1 2 1 2 1) (set none 22 4000000001))) (19 ∷ set none 22 4000000001 ++ three 0 0 0)
@@ -325,11 +325,59 @@ untaken =
     ∷ case (numbers (over-511 T none)) (2 ∷ none ++ three 0 0 0)
     ∷ []
 
+-- ---- The two parties
+
+-- a chunk of a party's that begins a stream, on this table
+abbrev by-party : (party : ℕ) → Memory → (chunk : List ℕ) → Chunked
+by-party party m chunk = replay-chunk T m party hops none (three 0 0 0) room chunk
+
+-- a record that withdraws 10.1/16 and announces 192.0.2/24 and the default, as the worked one does, with NEXT_HOP 10.9.9.2
+abbrev theirs : List ℕ
+theirs = holding (updating (16 ∷ 10 ∷ 1 ∷ []) 2 (24 ∷ 192 ∷ 0 ∷ 2 ∷ 0 ∷ []))
+
+-- party 1's record where party 0 has 10.1/16, and then the worked record of party 0
+abbrev one-first : Chunked
+one-first = by-party 1 held theirs
+
+abbrev both : Chunked
+both = by-party 0 (one-first .memory) sample
+
+-- the two default words
+abbrev defaults : Chunked → List ℕ
+defaults i = map (λ word. getD (i .memory .slots) word 0) (256 ∷ 257 ∷ [])
+
+-- what each party then finds
+abbrev found-by : Memory → (address : ℕ) → List ℕ
+found-by m address = figures (lookup T m 0 address) ++ figures (lookup T m 1 address)
+
+-- a chunk of party 2's is given a number, and all is as it was
+abbrev not-known : Settings → Memory → (number : ℕ) (tally words : List ℕ) → Case
+not-known t m number tally words = case (told (replay-chunk t m 2 hops tally words room sample)) (leaves number tally words m [])
+
+parties : List Case
+parties =
+    -- R23: party 1's record withdraws nothing of party 0's, which is refused under 7, and announces party 1's routes alone
+    case (told one-first) (leaves 0 (refusing 1 1 2 1 0 0 0 0) (three 0 0 0) (add T (add T held 1 (ip 192 0 2 0) 24 0 .memory) 1 0 0 0 .memory) theirs)
+    ∷ case (found-by (one-first .memory) (ip 10 1 2 3)) (finds 9 16 1 ++ finds 0 0 1)
+    -- R24: party 0's equal routes are stored beside them, and each party finds its own
+    ∷ case (told both) (leaves 0 (tally 1 1 3) (three 0 0 0) (updated (one-first .memory)) sample)
+    ∷ case (defaults one-first ++ defaults both) (0 ∷ 65537 ∷ 2 ∷ 65537 ∷ [])
+    ∷ case (found-by (both .memory) (ip 192 0 2 7) ++ found-by (both .memory) (ip 10 1 2 3)) (finds 1 24 1 ++ finds 0 24 1 ++ finds 1 0 0 ++ finds 0 0 0)
+    -- R25: party 2 is given 15, and changes nothing; the end goes before it, and so do 19, 1, and 2
+    ∷ not-known T held 15 none (three 0 0 0)
+    ∷ not-known T held 15 (tally 1 1 3) (three 0 5 0)
+    ∷ not-known T (record { counters = sevens 511; slots = sevens 258 }) 2 none (three 0 0 0)
+    ∷ not-known T (record { counters = sevens 512; slots = sevens 257 }) 2 none (three 0 0 0)
+    ∷ not-known (settings 9 4 1 2 1 2 1) held 1 none (three 0 0 0)
+    ∷ not-known T held 19 (set none 22 4000000001) (three 0 0 0)
+    ∷ not-known T held 14 none (three 15 0 0)
+    ∷ []
+
 -- to unfold this is to unfold all that a replay computes with
 unfoldable pub computing : ℕ
 unfolding fed is-kind body-size to-read to-step-over header-read next-byte unless-ended completed byte-taken chunk-taken ended-word read-word left-word is-ended ended-number is-body stage-of words-of inside-record end-number end-stream as-size family-from addresses-from message-from message-of is-ipv4 is-update too-short holds-update record-bad is-applied record-calls refused-under tally-more tally-of tally-words tally-high record-done record-over doing replaying chunk-refusal stage-number lent-back taken-up take-chunk replay-chunk messages-computing
 computing = 0
 
-all-come-out : come-out (applied ++ seen ++ faults ++ kinds ++ chunks ++ untaken) ≡ true
-unfolding applied seen faults kinds chunks untaken same-words come-out computing
+all-come-out : come-out (applied ++ seen ++ faults ++ kinds ++ chunks ++ untaken ++ parties) ≡ true
+unfolding applied seen faults kinds chunks untaken parties same-words come-out computing
 all-come-out = refl

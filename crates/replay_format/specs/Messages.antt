@@ -65,6 +65,6 @@ record-bad bytes = too-short bytes || (holds-update bytes && not (well-formed (m
 unfoldable pub is-applied : (bytes hops : List ℕ) → Bool
 is-applied bytes hops = holds-update bytes && eqb (update-refusal (message-of bytes) hops) 0
 
--- such a record makes the single calls of its UPDATE; any other makes none
-unfoldable pub record-calls : (bytes hops : List ℕ) → List Call
-record-calls bytes hops = cond (is-applied bytes hops) (message-calls (message-of bytes) hops) []
+-- such a record makes the party's single calls of its UPDATE; any other makes none
+unfoldable pub record-calls : (party : ℕ) (bytes hops : List ℕ) → List Call
+record-calls party bytes hops = cond (is-applied bytes hops) (message-calls party (message-of bytes) hops) []

@@ -56,12 +56,13 @@ tally-high tally = any (ltb 4000000000) (tally-words tally)
 
 -- A record that is too short, or whose UPDATE is not well-formed, ends the replay with 12. Every other is seen, those of other
 -- kinds too; and an UPDATE that is not refused is applied.
-unfoldable pub replaying : (hops : List ℕ) → Reading Tally
-replaying hops =
+unfoldable pub replaying : (party : ℕ) (hops : List ℕ) → Reading Tally
+replaying party hops =
     record {
+      party = party;
       kind = day-kind;
       ends-with = λ bytes. cond (record-bad bytes) 12 0;
-      calls = λ bytes. record-calls bytes hops;
+      calls = λ bytes. record-calls party bytes hops;
       counts-more = λ earlier bytes answers. tally-more earlier (is-applied bytes hops) answers;
       counts-over = λ tally. tally-more tally false [];
       counts-of = tally-of;
@@ -70,5 +71,5 @@ replaying hops =
     }
 
 -- a chunk of a day
-unfoldable pub replay-chunk : Settings → Memory → (hops tally words room chunk : List ℕ) → Chunked
-replay-chunk t m hops tally words room chunk = take-chunk t (replaying hops) m tally words room chunk
+unfoldable pub replay-chunk : Settings → Memory → (party : ℕ) (hops tally words room chunk : List ℕ) → Chunked
+replay-chunk t m party hops tally words room chunk = take-chunk t (replaying party hops) m tally words room chunk

@@ -16,8 +16,9 @@ use Rattle.stream_format.specs.Chunks.{Chunked}
 use Rattle.replay_format.specs.Replaying.{numbers, refused-under, tally-of, replaying, replay-chunk}
 use Rattle.replay_format.proofs.Tallies.{at-number}
 use Rattle.promises.specs.History.{SingleCalls}
-use Rattle.stream_promises.specs.Noted.{Noted}
+use Rattle.stream_promises.specs.Noted.{Noted, all-by}
 use Rattle.stream_promises.proofs.Singles.{chunk-single, chunk-counted}
+use Rattle.stream_promises.proofs.Own.{records-own, chunk-own}
 use Rattle.stream_promises.proofs.Whole.{stream-single, stream-counted}
 use Rattle.replay_promises.specs.Days.{replayed-records, replayed-calls, Replays, day-records, day-calls, replay-tally, Tallied}
 use Rattle.replay_promises.proofs.Laws.{lawful}
@@ -49,43 +50,53 @@ module _ (hops before after : List ℕ) (records : List Noted) (answers : List �
 
 -- ---- A chunk
 
-module _ (t : Settings) (m : Memory) (hops tally words room chunk : List ℕ) where
+module _ (t : Settings) (m : Memory) (party : ℕ) (hops tally words room chunk : List ℕ) where
   -- what it is given back and leaves,
   abbrev its : Chunked
-  its = replay-chunk t m hops tally words room chunk
+  its = replay-chunk t m party hops tally words room chunk
 
   -- the records that it does,
   abbrev records : List Noted
-  records = replayed-records hops words room chunk (its .number)
+  records = replayed-records party hops words room chunk (its .number)
 
   -- and the calls that a history has of it
   abbrev calls : List Call
-  calls = replayed-calls hops words room chunk (its .number)
+  calls = replayed-calls party hops words room chunk (its .number)
 
   -- A replay is part of a history as these calls are.
   pub replay-single : areBytes room ≡ true → areBytes chunk ≡ true → SingleCalls t m calls (run t m calls .answers) (its .memory)
   unfolding replay-chunk
-  replay-single = chunk-single (lawful hops) t m tally words room chunk
+  replay-single = chunk-single (lawful party hops) t m tally words room chunk
+
+  -- They are all the party's.
+  pub replay-own : all-by party calls ≡ true
+  unfolding replaying
+  replay-own = chunk-own (lawful party hops) words room chunk (its .number)
 
   -- The figures go up by how many records it does, how many UPDATEs are applied, and how many of these calls are accepted, and
   -- refused under each number.
   pub counted : Tallied hops tally (its .counts) records (run t m calls .answers)
   unfolding replay-chunk replaying
-  counted = figures hops tally (its .counts) records _ (chunk-counted (lawful hops) t m tally words room chunk)
+  counted = figures hops tally (its .counts) records _ (chunk-counted (lawful party hops) t m tally words room chunk)
 
 -- ---- A day, in chunks one after the other
 
-module _ {t : Settings} (hops : List ℕ) {start last : Chunked} {chunks : List (List ℕ)} (replays : Replays t hops start chunks last) where
+module _ {t : Settings} (party : ℕ) (hops : List ℕ) {start last : Chunked} {chunks : List (List ℕ)} (replays : Replays t party hops start chunks last) where
   -- its calls
   abbrev all-calls : List Call
-  all-calls = day-calls hops start chunks
+  all-calls = day-calls party hops start chunks
 
   -- The day is part of a history as these calls are.
   pub day-single : areBytes (start .room) ≡ true → areBytes (input-of chunks) ≡ true
       → SingleCalls t (start .memory) all-calls (run t (start .memory) all-calls .answers) (last .memory)
-  day-single = stream-single (lawful hops) replays
+  day-single = stream-single (lawful party hops) replays
+
+  -- They are all the party's.
+  pub day-own : all-by party all-calls ≡ true
+  unfolding replaying
+  day-own = records-own (lawful party hops) (day-records party hops start chunks)
 
   -- At its end every figure is the one that it started from and what is counted over its records and the answers of these calls.
-  pub day-counted : Tallied hops (start .counts) (last .counts) (day-records hops start chunks) (run t (start .memory) all-calls .answers)
+  pub day-counted : Tallied hops (start .counts) (last .counts) (day-records party hops start chunks) (run t (start .memory) all-calls .answers)
   unfolding replaying
-  day-counted = figures hops (start .counts) (last .counts) _ _ (stream-counted (lawful hops) replays)
+  day-counted = figures hops (start .counts) (last .counts) _ _ (stream-counted (lawful party hops) replays)

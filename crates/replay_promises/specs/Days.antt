@@ -20,24 +20,24 @@ use Rattle.stream_promises.specs.Noted.{Noted, Read, Over, chunk-records, calls
 
 -- the records that a chunk does, by the number that it is given: those that it completes, up to the first one that ends the replay;
 -- none where it is not taken
-abbrev pub replayed-records : (hops words room chunk : List ℕ) (number : ℕ) → List Noted
-replayed-records hops words room chunk number = taken-records (replaying hops) words room chunk number
+abbrev pub replayed-records : (party : ℕ) (hops words room chunk : List ℕ) (number : ℕ) → List Noted
+replayed-records party hops words room chunk number = taken-records (replaying party hops) words room chunk number
 
 -- the calls that a history has of a chunk: those of the UPDATEs that are applied
-abbrev pub replayed-calls : (hops words room chunk : List ℕ) (number : ℕ) → List Call
-replayed-calls hops words room chunk number = taken-calls (replaying hops) words room chunk number
+abbrev pub replayed-calls : (party : ℕ) (hops words room chunk : List ℕ) (number : ℕ) → List Call
+replayed-calls party hops words room chunk number = taken-calls (replaying party hops) words room chunk number
 
--- These chunks were replayed one after the other, under the same settings and with the same list of next hops, and none was given
--- 19, 1 or 2. Nothing else touched the table, the tally, the words or the room.
-abbrev pub Replays : Settings → (hops : List ℕ) → Chunked → (chunks : List (List ℕ)) → Chunked → Type 0
-Replays t hops = Streamed t (replaying hops)
+-- These chunks were replayed one after the other for one party, under the same settings and with the same list of next hops, and
+-- none was given 19, 1, 2 or 15. Nothing else touched the table, the tally, the words or the room.
+abbrev pub Replays : Settings → (party : ℕ) (hops : List ℕ) → Chunked → (chunks : List (List ℕ)) → Chunked → Type 0
+Replays t party hops = Streamed t (replaying party hops)
 
 -- all the records that the bytes of these chunks complete, up to the first one that ends the replay, and their calls
-abbrev pub day-records : (hops : List ℕ) → Chunked → (chunks : List (List ℕ)) → List Noted
-day-records hops start chunks = chunk-records (replaying hops) (start .words) (start .room) (input-of chunks)
+abbrev pub day-records : (party : ℕ) (hops : List ℕ) → Chunked → (chunks : List (List ℕ)) → List Noted
+day-records party hops start chunks = chunk-records (replaying party hops) (start .words) (start .room) (input-of chunks)
 
-abbrev pub day-calls : (hops : List ℕ) → Chunked → (chunks : List (List ℕ)) → List Call
-day-calls hops start chunks = calls-of (replaying hops) (day-records hops start chunks)
+abbrev pub day-calls : (party : ℕ) (hops : List ℕ) → Chunked → (chunks : List (List ℕ)) → List Call
+day-calls party hops start chunks = calls-of (replaying party hops) (day-records party hops start chunks)
 
 -- ---- The tally
 
@@ -75,6 +75,6 @@ updates-of (Read bytes ∷ records) = cond (holds-update bytes) (message-of byte
 updates-of (Over ∷ records) = updates-of records
 
 -- the table that these messages leave when they are handed to the message call one by one, each on what the one before it has left
-unfoldable pub messages-applied : Settings → (hops : List ℕ) → Memory → (messages : List (List ℕ)) → Memory
-messages-applied t hops m [] = m
-messages-applied t hops m (message ∷ messages) = messages-applied t hops (apply-message t m message hops .memory) messages
+unfoldable pub messages-applied : Settings → (party : ℕ) (hops : List ℕ) → Memory → (messages : List (List ℕ)) → Memory
+messages-applied t party hops m [] = m
+messages-applied t party hops m (message ∷ messages) = messages-applied t party hops (apply-message t m party message hops .memory) messages

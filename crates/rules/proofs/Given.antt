@@ -36,46 +36,46 @@ module _ (t : Settings) (m : Memory) where
   found-length p L (some s) q mark = simp length-set
   found-length p L none q mark = refl
 
-  default-alike : (mark : ℕ) → Alike m (with-default t m mark)
+  default-alike : (party mark : ℕ) → Alike m (with-default t m party mark)
   unfolding with-default
-  default-alike mark = record { counters-alike = refl; slots-alike = simp length-set }
+  default-alike party mark = record { counters-alike = refl; slots-alike = simp length-set }
 
   zeroed-alike : Alike m (zeroed m)
   unfolding zeroed
   zeroed-alike = record { counters-alike = simp length-replicate; slots-alike = simp length-replicate }
 
-  module _ (p L : ℕ) where
-    changed-alike : (hop : ℕ) → Alike m (changed t m p L hop)
+  module _ (party p L : ℕ) where
+    changed-alike : (hop : ℕ) → Alike m (changed t m party p L hop)
     unfolding changed
     changed-alike hop =
-        either-alike (eqb L 0) (default-alike (mark-of hop))
-        (record { counters-alike = refl; slots-alike = found-length p L (held t (m .slots) p L) p (mark-of hop) })
+        either-alike (eqb L 0) (default-alike party (mark-of party hop))
+        (record { counters-alike = refl; slots-alike = found-length p L (held t (m .slots) party p L) p (mark-of party hop) })
 
-    added-alike : (hop : ℕ) → Alike m (added t m p L hop)
+    added-alike : (hop : ℕ) → Alike m (added t m party p L hop)
     unfolding added
     added-alike hop =
-        either-alike (needs-slot t (m .slots) p L)
+        either-alike (needs-slot t (m .slots) party p L)
         (record {
           counters-alike = step-each-length (λ n. n + 1) (m .counters) (counter-places t p L);
-          slots-alike = found-length p L (vacant t (m .slots) p L) p (mark-of hop);
+          slots-alike = found-length p L (vacant t (m .slots) p L) p (mark-of party hop);
         })
         (changed-alike hop)
 
-    withdrawn-alike : Alike m (withdrawn t m p L)
+    withdrawn-alike : Alike m (withdrawn t m party p L)
     unfolding withdrawn
     withdrawn-alike =
-        either-alike (eqb L 0) (default-alike 0)
+        either-alike (eqb L 0) (default-alike party 0)
         (record {
           counters-alike = step-each-length (λ n. n - 1) (m .counters) (counter-places t p L);
-          slots-alike = found-length p L (held t (m .slots) p L) 0 0;
+          slots-alike = found-length p L (held t (m .slots) party p L) 0 0;
         })
 
   act-alike : (call : Call) → Alike m (act t call m .memory)
   unfolding act clear add withdraw change
   act-alike Clear = unless-alike _ zeroed-alike
-  act-alike (Add p L hop) = unless-alike _ (added-alike p L hop)
-  act-alike (Withdraw p L) = unless-alike _ (withdrawn-alike p L)
-  act-alike (Change p L hop) = unless-alike _ (changed-alike p L hop)
+  act-alike (Add party p L hop) = unless-alike _ (added-alike party p L hop)
+  act-alike (Withdraw party p L) = unless-alike _ (withdrawn-alike party p L)
+  act-alike (Change party p L hop) = unless-alike _ (changed-alike party p L hop)
 
 -- Every call keeps the sizes, so that 1 and 2 are given after it where they are given before.
 pub act-sizes : (t : Settings) (m : Memory) (call : Call) (after : ℕ) → memory-refusal t (act t call m .memory) after ≡ memory-refusal t m after
@@ -90,17 +90,18 @@ run-sizes t m (call ∷ calls) after = run-sizes t (act t call m .memory) calls 
 
 -- ---- Numbers
 
--- what 3 and 4 not given tells of a route
-pub record RouteGood (p L : ℕ) : Type 0 where
+-- what 15, 3 and 4 not given tells of a route
+pub record RouteGood (party p L : ℕ) : Type 0 where
+  pub known : party ≤ 1
   pub high : L ≤ 32
   pub tight : prefix p L ≡ p
 
 -- a call on a good route, with a hop that is good too
 abbrev pub GoodCall : Call → Type 0
 GoodCall Clear = Unit {0}
-GoodCall (Add p L hop) = RouteGood p L × (hop ≤ 65535)
-GoodCall (Withdraw p L) = RouteGood p L
-GoodCall (Change p L hop) = RouteGood p L × (hop ≤ 65535)
+GoodCall (Add party p L hop) = RouteGood party p L × (hop ≤ 65535)
+GoodCall (Withdraw party p L) = RouteGood party p L
+GoodCall (Change party p L hop) = RouteGood party p L × (hop ≤ 65535)
 
 -- calls that all are
 abbrev pub GoodCalls : List Call → Type 0
@@ -133,17 +134,17 @@ change-left true = refl
 change-left false = refl
 
 module _ (t : Settings) (m : Memory) (fit : memory-refusal t m 0 ≡ 0) where
-  past-route : {p L : ℕ} → RouteGood p L → (after : ℕ) → route-refusal t m p L after ≡ after
-  past-route {p} {L} good =
-      route-fits t (m .counters) (m .slots) p L (record { memory = memory-passed t (m .counters) (m .slots) 0 fit .0; high = good .high; tight = good .tight })
+  past-route : {party p L : ℕ} → RouteGood party p L → (after : ℕ) → route-refusal t m party p L after ≡ after
+  past-route {party} {p} {L} good =
+      route-fits t (m .counters) (m .slots) party p L (record { memory = memory-passed t (m .counters) (m .slots) 0 fit .0; known = good .known; high = good .high; tight = good .tight })
 
   -- A good call is given 0, or 7 to 11.
   pub call-number : (call : Call) → GoodCall call → route-number (act t call m .refusal) ≡ true
   unfolding act clear add withdraw change unless-refused add-refusal withdraw-refusal change-refusal route-refusal route-number
   call-number Clear good = ap route-number fit
-  call-number (Add p L hop) good = rw (past-route (good .0), le-ltb _ _ (good .1)) (add-left _ _ _)
-  call-number (Withdraw p L) good = rw (past-route good) (withdraw-left _ _)
-  call-number (Change p L hop) good = rw (past-route (good .0), le-ltb _ _ (good .1)) (change-left _)
+  call-number (Add party p L hop) good = rw (past-route (good .0), le-ltb _ _ (good .1)) (add-left _ _ _)
+  call-number (Withdraw party p L) good = rw (past-route good) (withdraw-left _ _)
+  call-number (Change party p L hop) good = rw (past-route (good .0), le-ltb _ _ (good .1)) (change-left _)
 
 -- So is each of calls one after the other.
 pub run-numbers : (t : Settings) (m : Memory) (calls : List Call) → memory-refusal t m 0 ≡ 0 → GoodCalls calls → all route-number (run t m calls .answers) ≡ true

@@ -14,7 +14,7 @@ use lib.Seq.{take-all}
 use lib.Pow.{pow-pos, pow-mono, shr-lt}
 use Rattle.rules.specs.declared.Settings.{Settings}
 use Rattle.rules.specs.Tools.{within, all, count}
-use Rattle.rules.specs.Table.{occupied, list-in-range, in-range, wrap, steps, filter-bits, positions, bucket, filters-size, counters-size, filter-start, counter-place, counter-places, slots-size, slot-number, prefix-word, mark-word, default-word, hits}
+use Rattle.rules.specs.Table.{list-in-range, in-range, wrap, steps, filter-bits, positions, bucket, filters-size, counters-size, filter-start, counter-place, counter-places, slots-size, slot-number, prefix-word, mark-word, default-word, hits}
 use Rattle.rules.specs.Ready.{Ready}
 use Rattle.rules.proofs.Members.{Among, both, within-true, all-at, among-none, among-cases, among-map, count-map}
 
@@ -324,27 +324,31 @@ pub prefix-not-mark : (n m : ℕ) → prefix-word n ≢ mark-word m
 unfolding prefix-word mark-word
 prefix-not-mark n m = omega arith
 
--- a slot's two words lie before the default's word, and that one is the last
+-- a slot's two words lie before the words of the defaults, and these are the last two
 pub record WordsFit (t : Settings) (n : ℕ) : Type 0 where
-  pub prefix : prefix-word n < default-word t
-  pub mark : mark-word n < default-word t
+  pub prefix : prefix-word n < default-word t 0
+  pub mark : mark-word n < default-word t 0
 
 pub words-fit : (t : Settings) (p L s : ℕ) → Ready t L → s < t .s → WordsFit t (slot-number t p L s)
-unfolding slot-number prefix-word mark-word default-word slots-size
+unfolding slot-number prefix-word mark-word default-word
 words-fit t p L s ready h =
     let lengths : L - 1 < 32 = omega arith in
     let number = digits-lt (digits-lt lengths (bucket-lt t p (ready .range))) h in
     let whole : 64 * 2 ^ t .e * t .s ≡ 2 * (32 * 2 ^ t .e * t .s) = ap (λ (x : ℕ). x * t .s) (mul-assoc 2 32 (2 ^ t .e)) ∙ mul-assoc 2 (32 * 2 ^ t .e) (t .s) in
     omega arith
 
-pub default-fits : (t : Settings) → default-word t < slots-size t
+pub default-fits : (t : Settings) (party : ℕ) → party ≤ 1 → default-word t party < slots-size t
 unfolding default-word slots-size
-default-fits t = omega arith
+default-fits t party one-of = omega arith
 
--- an occupied mark is at least 1
-pub occupied-low : (mark : ℕ) → occupied mark ≡ true → 1 ≤ mark
-unfolding occupied
-occupied-low mark h = within-true 1 65536 mark h .0
+-- each party's default has a word of its own
+pub defaults-apart : (t : Settings) (party other : ℕ) → default-word t party ≡ default-word t other → party ≡ other
+unfolding default-word
+defaults-apart t party other e = omega arith
+
+pub default-after : (t : Settings) (party : ℕ) → default-word t 0 ≤ default-word t party
+unfolding default-word
+default-after t party = omega arith
 
 -- ---- Counters by number
 

@@ -9,7 +9,7 @@ use lib.Dec.{ltb, eqb}
 use lib.ListN.{length}
 use borrow.Author.Tests.{ltb-false, le-ltb, eqb-true, eq-eqb, ne-eqb, not-false}
 use Rattle.rules.specs.declared.Settings.{Settings}
-use Rattle.rules.specs.Table.{Memory, lent, in-range, counters-size, slots-size, prefix, stored, full, passes-15, runs-short, refuse, from-1, needs-slot, sized, loose, odd-prefix, memory-refusal, add-checks, route-refusal, add-refusal, withdraw-refusal, change-refusal, fourfold, list-refusal, unless-refused}
+use Rattle.rules.specs.Table.{Memory, lent, in-range, counters-size, slots-size, prefix, stored, full, passes-15, runs-short, refuse, from-1, needs-slot, sized, loose, odd-prefix, memory-refusal, party-refusal, add-checks, route-refusal, add-refusal, withdraw-refusal, change-refusal, fourfold, list-refusal, unless-refused}
 use Rattle.rules.specs.Ready.{Ready, Counters, Slots}
 use Rattle.rules.proofs.Members.{both}
 use Rattle.rules.proofs.Prefixes.{loose-false}
@@ -32,27 +32,31 @@ pub memory-passing : (t : Settings) (m : Memory) → Passing (memory-refusal t m
 unfolding memory-refusal
 memory-passing t m = more-passing (not (in-range t)) 0 (more-passing (not (sized t m)) 1 none-passing)
 
-route-then : (t : Settings) (m : Memory) (p L : ℕ) {checks : ℕ → ℕ} → Passing checks → Passing (λ after. route-refusal t m p L (checks after))
-unfolding route-refusal memory-refusal
-route-then t m p L h =
-    more-passing (not (in-range t)) 0
-    (more-passing (not (sized t m)) 1 (more-passing (ltb 32 L) 2 (more-passing (loose p L) 3 h)))
+party-then : (t : Settings) (m : Memory) (party : ℕ) {checks : ℕ → ℕ} → Passing checks → Passing (λ after. party-refusal t m party (checks after))
+unfolding party-refusal memory-refusal
+party-then t m party h =
+    more-passing (not (in-range t)) 0 (more-passing (not (sized t m)) 1 (more-passing (ltb 1 party) 14 h))
 
-pub route-passing : (t : Settings) (m : Memory) (p L : ℕ) → Passing (route-refusal t m p L)
-route-passing t m p L = route-then t m p L none-passing
+pub party-passing : (t : Settings) (m : Memory) (party : ℕ) → Passing (party-refusal t m party)
+party-passing t m party = party-then t m party none-passing
 
-pub hop-passing : (t : Settings) (m : Memory) (p L hop : ℕ) → Passing (λ after. route-refusal t m p L (refuse (ltb 65535 hop) 5 after))
-hop-passing t m p L hop = route-then t m p L (more-passing (ltb 65535 hop) 4 none-passing)
-
-pub add-passing : (t : Settings) (m : Memory) (p L hop : ℕ) → Passing (λ after. memory-refusal t m (add-checks p L hop after))
+route-then : (t : Settings) (m : Memory) (party p L : ℕ) {checks : ℕ → ℕ} → Passing checks → Passing (λ after. route-refusal t m party p L (checks after))
 unfolding route-refusal
-add-passing t m p L hop = route-then t m p L (more-passing (odd-prefix p L) 10 (more-passing (ltb 65535 hop) 4 none-passing))
+route-then t m party p L h = party-then t m party (more-passing (ltb 32 L) 2 (more-passing (loose p L) 3 h))
 
-pub list-passing : (t : Settings) (m : Memory) (addresses results : ℕ) → Passing (list-refusal t m addresses results)
-unfolding list-refusal memory-refusal
-list-passing t m addresses results =
-    more-passing (not (in-range t)) 0
-    (more-passing (not (sized t m)) 1 (more-passing (not (fourfold addresses results)) 17 none-passing))
+pub route-passing : (t : Settings) (m : Memory) (party p L : ℕ) → Passing (route-refusal t m party p L)
+route-passing t m party p L = route-then t m party p L none-passing
+
+pub hop-passing : (t : Settings) (m : Memory) (party p L hop : ℕ) → Passing (λ after. route-refusal t m party p L (refuse (ltb 65535 hop) 5 after))
+hop-passing t m party p L hop = route-then t m party p L (more-passing (ltb 65535 hop) 4 none-passing)
+
+pub add-passing : (t : Settings) (m : Memory) (party p L hop : ℕ) → Passing (λ after. party-refusal t m party (add-checks p L hop after))
+unfolding route-refusal
+add-passing t m party p L hop = route-then t m party p L (more-passing (odd-prefix p L) 10 (more-passing (ltb 65535 hop) 4 none-passing))
+
+pub list-passing : (t : Settings) (m : Memory) (party addresses results : ℕ) → Passing (list-refusal t m party addresses results)
+unfolding list-refusal
+list-passing t m party addresses results = party-then t m party (more-passing (not (fourfold addresses results)) 17 none-passing)
 
 -- a check that passed: its condition does not hold, and those after it passed
 pub passed : (bad : Bool) (number after : ℕ) → refuse bad (suc number) after ≡ 0 → (bad ≡ false) × (after ≡ 0)
@@ -88,30 +92,51 @@ unfolding memory-refusal sized refuse
 fits t counters slots f after =
     simp (f .range, eq-eqb _ _ (f .counters-fit), eq-eqb _ _ (f .slots-fit))
 
--- what 1 to 4 not given tells
-pub record RouteFitted (t : Settings) (counters slots : List ℕ) (p L : ℕ) : Type 0 where
+-- what 1, 2 and 15 not given tells
+pub record PartyFitted (t : Settings) (counters slots : List ℕ) (party : ℕ) : Type 0 where
   pub memory : Fitted t counters slots
+  pub known : party ≤ 1
+
+pub party-passed : (t : Settings) (counters slots : List ℕ) (party after : ℕ) → party-refusal t (lent counters slots) party after ≡ 0
+    → PartyFitted t counters slots party × (after ≡ 0)
+unfolding party-refusal
+party-passed t counters slots party after e =
+    let two = memory-passed t counters slots (refuse (ltb 1 party) 15 after) e in
+    let known = passed (ltb 1 party) 14 after (two .1) in
+    (record { memory = two .0; known = ltb-false _ _ (known .0) }, known .1)
+
+-- and the other way
+pub party-fits : (t : Settings) (counters slots : List ℕ) (party : ℕ) → PartyFitted t counters slots party
+    → (after : ℕ) → party-refusal t (lent counters slots) party after ≡ after
+unfolding party-refusal refuse
+party-fits t counters slots party f after = fits t counters slots (f .memory) _ ∙ simp (le-ltb _ _ (f .known))
+
+-- what 1 to 4, and 15, not given tells
+pub record RouteFitted (t : Settings) (counters slots : List ℕ) (party p L : ℕ) : Type 0 where
+  pub memory : Fitted t counters slots
+  pub known : party ≤ 1
   pub high : L ≤ 32
   pub tight : prefix p L ≡ p
 
-pub route-passed : (t : Settings) (counters slots : List ℕ) (p L after : ℕ) → route-refusal t (lent counters slots) p L after ≡ 0
-    → RouteFitted t counters slots p L × (after ≡ 0)
+pub route-passed : (t : Settings) (counters slots : List ℕ) (party p L after : ℕ) → route-refusal t (lent counters slots) party p L after ≡ 0
+    → RouteFitted t counters slots party p L × (after ≡ 0)
 unfolding route-refusal
-route-passed t counters slots p L after e =
-    let two = memory-passed t counters slots (refuse (ltb 32 L) 3 (refuse (loose p L) 4 after)) e in
-    let three = passed (ltb 32 L) 2 (refuse (loose p L) 4 after) (two .1) in
+route-passed t counters slots party p L after e =
+    let whose = party-passed t counters slots party (refuse (ltb 32 L) 3 (refuse (loose p L) 4 after)) e in
+    let three = passed (ltb 32 L) 2 (refuse (loose p L) 4 after) (whose .1) in
     let four = passed (loose p L) 3 after (three .1) in
-    (record { memory = two .0; high = ltb-false _ _ (three .0); tight = loose-false p L .0 (four .0) }, four .1)
+    (record { memory = whose .0 .memory; known = whose .0 .known; high = ltb-false _ _ (three .0); tight = loose-false p L .0 (four .0) }, four .1)
 
 -- and the other way
-pub route-fits : (t : Settings) (counters slots : List ℕ) (p L : ℕ) → RouteFitted t counters slots p L
-    → (after : ℕ) → route-refusal t (lent counters slots) p L after ≡ after
+pub route-fits : (t : Settings) (counters slots : List ℕ) (party p L : ℕ) → RouteFitted t counters slots party p L
+    → (after : ℕ) → route-refusal t (lent counters slots) party p L after ≡ after
 unfolding route-refusal refuse
-route-fits t counters slots p L f after =
-    fits t counters slots (f .memory) _ ∙ simp (le-ltb _ _ (f .high), loose-false p L .1 (f .tight))
+route-fits t counters slots party p L f after =
+    party-fits t counters slots party (record { memory = f .memory; known = f .known }) _
+    ∙ simp (le-ltb _ _ (f .high), loose-false p L .1 (f .tight))
 
 -- and so the inner steps of an update may count on this
-module _ {t : Settings} {counters slots : List ℕ} {p L : ℕ} (f : RouteFitted t counters slots p L) where
+module _ {t : Settings} {counters slots : List ℕ} {party p L : ℕ} (f : RouteFitted t counters slots party p L) where
   pub fitted-ready : (L ≡ 0 → ⊥) → Ready t L
   fitted-ready up = record { range = f .memory .range; low = omega arith; high = f .high }
 
@@ -121,39 +146,39 @@ module _ {t : Settings} {counters slots : List ℕ} {p L : ℕ} (f : RouteFitted
   pub fitted-slots : Slots t slots
   fitted-slots = record { size = f .memory .slots-fit }
 
--- what 1 to 5 not given tells
-pub record HopFitted (t : Settings) (counters slots : List ℕ) (p L hop : ℕ) : Type 0 where
-  pub route : RouteFitted t counters slots p L
+-- what 1 to 5, and 15, not given tells
+pub record HopFitted (t : Settings) (counters slots : List ℕ) (party p L hop : ℕ) : Type 0 where
+  pub route : RouteFitted t counters slots party p L
   pub small : hop ≤ 65535
 
-pub hop-passed : (t : Settings) (counters slots : List ℕ) (p L hop after : ℕ)
-    → route-refusal t (lent counters slots) p L (refuse (ltb 65535 hop) 5 after) ≡ 0 → HopFitted t counters slots p L hop × (after ≡ 0)
-hop-passed t counters slots p L hop after e =
-    let to4 = route-passed t counters slots p L (refuse (ltb 65535 hop) 5 after) e in
+pub hop-passed : (t : Settings) (counters slots : List ℕ) (party p L hop after : ℕ)
+    → route-refusal t (lent counters slots) party p L (refuse (ltb 65535 hop) 5 after) ≡ 0 → HopFitted t counters slots party p L hop × (after ≡ 0)
+hop-passed t counters slots party p L hop after e =
+    let to4 = route-passed t counters slots party p L (refuse (ltb 65535 hop) 5 after) e in
     let to5 = passed (ltb 65535 hop) 4 after (to4 .1) in
     (record { route = to4 .0; small = ltb-false _ _ (to5 .0) }, to5 .1)
 
--- what an add's first checks tell: 1 to 5, and 11, not given
-pub record AddChecked (t : Settings) (counters slots : List ℕ) (p L hop : ℕ) : Type 0 where
-  pub fitted : HopFitted t counters slots p L hop
+-- what an add's first checks tell: 1 to 5, 11 and 15 not given
+pub record AddChecked (t : Settings) (counters slots : List ℕ) (party p L hop : ℕ) : Type 0 where
+  pub fitted : HopFitted t counters slots party p L hop
   pub not-odd : odd-prefix p L ≡ false
 
-pub checks-passed : (t : Settings) (counters slots : List ℕ) (p L hop after : ℕ)
-    → memory-refusal t (lent counters slots) (add-checks p L hop after) ≡ 0 → AddChecked t counters slots p L hop × (after ≡ 0)
+pub checks-passed : (t : Settings) (counters slots : List ℕ) (party p L hop after : ℕ)
+    → party-refusal t (lent counters slots) party (add-checks p L hop after) ≡ 0 → AddChecked t counters slots party p L hop × (after ≡ 0)
 unfolding route-refusal
-checks-passed t counters slots p L hop after e =
+checks-passed t counters slots party p L hop after e =
     let five = refuse (ltb 65535 hop) 5 after in
-    let to4 = route-passed t counters slots p L (refuse (odd-prefix p L) 11 five) e in
+    let to4 = route-passed t counters slots party p L (refuse (odd-prefix p L) 11 five) e in
     let to11 = passed (odd-prefix p L) 10 five (to4 .1) in
     let to5 = passed (ltb 65535 hop) 4 after (to11 .1) in
     (record { fitted = record { route = to4 .0; small = ltb-false _ _ (to5 .0) }; not-odd = to11 .0 }, to5 .1)
 
 -- and the other way
-pub checks-fit : (t : Settings) (counters slots : List ℕ) (p L hop : ℕ) → AddChecked t counters slots p L hop
-    → (after : ℕ) → memory-refusal t (lent counters slots) (add-checks p L hop after) ≡ after
+pub checks-fit : (t : Settings) (counters slots : List ℕ) (party p L hop : ℕ) → AddChecked t counters slots party p L hop
+    → (after : ℕ) → party-refusal t (lent counters slots) party (add-checks p L hop after) ≡ after
 unfolding route-refusal refuse
-checks-fit t counters slots p L hop f after =
-    route-fits t counters slots p L (f .fitted .route) _ ∙ simp (f .not-odd, le-ltb _ _ (f .fitted .small))
+checks-fit t counters slots party p L hop f after =
+    route-fits t counters slots party p L (f .fitted .route) _ ∙ simp (f .not-odd, le-ltb _ _ (f .fitted .small))
 
 -- a number that checks gave back, of a call that goes no further where it is not 0
 module _ {checks : ℕ → ℕ} (passing : Passing checks) {given : ℕ} (e : given ≡ checks 0) where
@@ -164,22 +189,22 @@ module _ {checks : ℕ → ℕ} (passing : Passing checks) {given : ℕ} (e : gi
   let-by good after = passing .accepts (sym e ∙ good) after
 
 -- what an accepted add tells
-pub record AddFitted (t : Settings) (counters slots : List ℕ) (p L hop : ℕ) : Type 0 where
-  pub route : RouteFitted t counters slots p L
+pub record AddFitted (t : Settings) (counters slots : List ℕ) (party p L hop : ℕ) : Type 0 where
+  pub route : RouteFitted t counters slots party p L
   pub not-odd : odd-prefix p L ≡ false
   pub small : hop ≤ 65535
-  pub room : needs-slot t slots p L && full t slots p L ≡ false
-  pub level : needs-slot t slots p L && passes-15 t counters p L ≡ false
+  pub room : needs-slot t slots party p L && full t slots p L ≡ false
+  pub level : needs-slot t slots party p L && passes-15 t counters p L ≡ false
 
-pub add-passed : (t : Settings) (counters slots : List ℕ) (p L hop : ℕ) → add-refusal t (lent counters slots) p L hop ≡ 0
-    → AddFitted t counters slots p L hop
+pub add-passed : (t : Settings) (counters slots : List ℕ) (party p L hop : ℕ) → add-refusal t (lent counters slots) party p L hop ≡ 0
+    → AddFitted t counters slots party p L hop
 unfolding add-refusal
-add-passed t counters slots p L hop e =
-    let nine = refuse (needs-slot t slots p L && passes-15 t counters p L) 9 0 in
-    let eight = refuse (needs-slot t slots p L && full t slots p L) 8 nine in
-    let first = checks-passed t counters slots p L hop eight e in
-    let to8 = passed (needs-slot t slots p L && full t slots p L) 7 nine (first .1) in
-    let to9 = passed (needs-slot t slots p L && passes-15 t counters p L) 8 0 (to8 .1) in
+add-passed t counters slots party p L hop e =
+    let nine = refuse (needs-slot t slots party p L && passes-15 t counters p L) 9 0 in
+    let eight = refuse (needs-slot t slots party p L && full t slots p L) 8 nine in
+    let first = checks-passed t counters slots party p L hop eight e in
+    let to8 = passed (needs-slot t slots party p L && full t slots p L) 7 nine (first .1) in
+    let to9 = passed (needs-slot t slots party p L && passes-15 t counters p L) 8 0 (to8 .1) in
     let checked = first .0 in
     record { route = checked .fitted .route; not-odd = checked .not-odd; small = checked .fitted .small; room = to8 .0; level = to9 .0 }
 
@@ -199,26 +224,36 @@ pub memory-order : (t : Settings) (m : Memory) (after : ℕ) → memory-refusal 
 unfolding memory-refusal
 memory-order t m after = refl
 
-pub add-order : (t : Settings) (m : Memory) (p L hop : ℕ) → add-refusal t m p L hop
-    ≡ memory-refusal t m
+pub party-order : (t : Settings) (m : Memory) (party after : ℕ)
+    → party-refusal t m party after ≡ refuse (not (in-range t)) 1 (refuse (not (sized t m)) 2 (refuse (ltb 1 party) 15 after))
+unfolding party-refusal memory-refusal
+party-order t m party after = refl
+
+pub add-order : (t : Settings) (m : Memory) (party p L hop : ℕ) → add-refusal t m party p L hop
+    ≡ party-refusal t m party
     (refuse (ltb 32 L) 3
     (refuse (loose p L) 4
     (refuse (odd-prefix p L) 11
     (refuse (ltb 65535 hop) 5
-    (refuse (from-1 L (not (stored t (m .slots) p L)) && full t (m .slots) p L) 8
-    (refuse (from-1 L (not (stored t (m .slots) p L)) && passes-15 t (m .counters) p L) 9 0))))))
+    (refuse (from-1 L (not (stored t (m .slots) party p L)) && full t (m .slots) p L) 8
+    (refuse (from-1 L (not (stored t (m .slots) party p L)) && passes-15 t (m .counters) p L) 9 0))))))
 unfolding add-refusal needs-slot
-add-order t m p L hop = refl
+add-order t m party p L hop = refl
 
-pub withdraw-order : (t : Settings) (m : Memory) (p L : ℕ) → withdraw-refusal t m p L
-    ≡ memory-refusal t m
+pub withdraw-order : (t : Settings) (m : Memory) (party p L : ℕ) → withdraw-refusal t m party p L
+    ≡ party-refusal t m party
     (refuse (ltb 32 L) 3
-    (refuse (loose p L) 4 (refuse (not (stored t (m .slots) p L)) 7 (refuse (from-1 L (runs-short t (m .counters) p L)) 10 0))))
+    (refuse (loose p L) 4 (refuse (not (stored t (m .slots) party p L)) 7 (refuse (from-1 L (runs-short t (m .counters) p L)) 10 0))))
 unfolding withdraw-refusal route-refusal
-withdraw-order t m p L = refl
+withdraw-order t m party p L = refl
 
-pub change-order : (t : Settings) (m : Memory) (p L hop : ℕ) → change-refusal t m p L hop
-    ≡ memory-refusal t m
-    (refuse (ltb 32 L) 3 (refuse (loose p L) 4 (refuse (ltb 65535 hop) 5 (refuse (not (stored t (m .slots) p L)) 7 0))))
+pub change-order : (t : Settings) (m : Memory) (party p L hop : ℕ) → change-refusal t m party p L hop
+    ≡ party-refusal t m party
+    (refuse (ltb 32 L) 3 (refuse (loose p L) 4 (refuse (ltb 65535 hop) 5 (refuse (not (stored t (m .slots) party p L)) 7 0))))
 unfolding change-refusal route-refusal
-change-order t m p L hop = refl
+change-order t m party p L hop = refl
+
+pub list-order : (t : Settings) (m : Memory) (party addresses results after : ℕ)
+    → list-refusal t m party addresses results after ≡ party-refusal t m party (refuse (not (fourfold addresses results)) 18 after)
+unfolding list-refusal
+list-order t m party addresses results after = refl

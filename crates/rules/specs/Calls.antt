@@ -8,19 +8,19 @@ use Rattle.rules.specs.Tools.{within, those}
 use Rattle.rules.specs.declared.Settings.{Settings}
 use Rattle.rules.specs.Table.{Memory, Outcome, clear, add, withdraw, change}
 
--- a call that writes, with its arguments
+-- a call that writes, with its arguments; but for a clear it names its party
 pub data Call : Type 0 where
   Clear : Call
-  Add : (p L hop : ℕ) → Call
-  Withdraw : (p L : ℕ) → Call
-  Change : (p L hop : ℕ) → Call
+  Add : (party p L hop : ℕ) → Call
+  Withdraw : (party p L : ℕ) → Call
+  Change : (party p L hop : ℕ) → Call
 
 -- its prefix is a number of 32 bits, as every caller's is
 unfoldable pub word-sized : Call → Bool
 word-sized Clear = true
-word-sized (Add p L hop) = ltb p (2 ^ 32)
-word-sized (Withdraw p L) = ltb p (2 ^ 32)
-word-sized (Change p L hop) = ltb p (2 ^ 32)
+word-sized (Add party p L hop) = ltb p (2 ^ 32)
+word-sized (Withdraw party p L) = ltb p (2 ^ 32)
+word-sized (Change party p L hop) = ltb p (2 ^ 32)
 
 -- so is that of each of these calls
 unfoldable pub all-word-sized : List Call → Bool
@@ -30,9 +30,9 @@ all-word-sized (call ∷ calls) = word-sized call && all-word-sized calls
 -- what a call gives back and leaves
 unfoldable pub act : Settings → Call → Memory → Outcome
 act t Clear m = clear t m
-act t (Add p L hop) m = add t m p L hop
-act t (Withdraw p L) m = withdraw t m p L
-act t (Change p L hop) m = change t m p L hop
+act t (Add party p L hop) m = add t m party p L hop
+act t (Withdraw party p L) m = withdraw t m party p L
+act t (Change party p L hop) m = change t m party p L hop
 
 -- ---- One call after the other
 

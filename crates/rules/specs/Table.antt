@@ -81,9 +81,9 @@ counter-place t L j = filter-start t L + j
 unfoldable pub counter-places : Settings → (p L : ℕ) → List ℕ
 counter-places t p L = map (counter-place t L) (positions t p L)
 
--- how many words the slots take: two for each slot of 32 lengths, and the default's mark
+-- how many words the slots take: two for each slot of 32 lengths, and a default's mark for each of two parties
 unfoldable pub slots-size : Settings → ℕ
-slots-size t = 64 * 2 ^ t .e * t .s + 1
+slots-size t = 64 * 2 ^ t .e * t .s + 2
 
 -- the number of slot s of p's bucket at length L
 unfoldable pub slot-number : Settings → (p L s : ℕ) → ℕ
@@ -97,21 +97,29 @@ prefix-word n = 2 * n
 unfoldable pub mark-word : (n : ℕ) → ℕ
 mark-word n = 2 * n + 1
 
--- the last word of all is the default's mark
-unfoldable pub default-word : Settings → ℕ
-default-word t = slots-size t - 1
+-- after all slots comes the mark of party 0's default, and then that of party 1's
+unfoldable pub default-word : Settings → (party : ℕ) → ℕ
+default-word t party = 64 * 2 ^ t .e * t .s + party
 
--- a mark of 1 to 65,536 means occupied; every other one means free
+-- a party's marks are 65,536 numbers, one for each hop: party 0's begin at 1, and party 1's at 65,537
+unfoldable pub first-mark : (party : ℕ) → ℕ
+first-mark party = 65536 * party + 1
+
+-- the mark is one of the party's
+unfoldable pub own : (party mark : ℕ) → Bool
+own party mark = within (first-mark party) (first-mark party + 65535) mark
+
+-- a mark of either party means occupied; every other one means free
 unfoldable pub occupied : (mark : ℕ) → Bool
-occupied mark = within 1 65536 mark
+occupied mark = own 0 mark || own 1 mark
 
--- the mark of a hop is one more than the hop
-unfoldable pub mark-of : (hop : ℕ) → ℕ
-mark-of hop = hop + 1
+-- the party's mark of a hop
+unfoldable pub mark-of : (party hop : ℕ) → ℕ
+mark-of party hop = first-mark party + hop
 
--- the hop of an occupied mark
-unfoldable pub hop-of : (mark : ℕ) → ℕ
-hop-of mark = mark - 1
+-- the hop of a mark of the party's
+unfoldable pub hop-of : (party mark : ℕ) → ℕ
+hop-of party mark = mark - first-mark party
 
 -- the mark of slot n
 unfoldable pub mark-at : (slots : List ℕ) (n : ℕ) → ℕ
@@ -121,23 +129,23 @@ mark-at slots n = getD slots (mark-word n) 0
 unfoldable pub prefix-at : (slots : List ℕ) (n : ℕ) → ℕ
 prefix-at slots n = getD slots (prefix-word n) 0
 
--- the mark of the default route
-unfoldable pub default-mark : Settings → (slots : List ℕ) → ℕ
-default-mark t slots = getD slots (default-word t) 0
+-- the mark in the word of a party's default route
+unfoldable pub default-mark : Settings → (slots : List ℕ) (party : ℕ) → ℕ
+default-mark t slots party = getD slots (default-word t party) 0
 
 -- ---- What is stored
 
--- slot s of p's bucket at length L is occupied and holds p
-unfoldable pub holds : Settings → (slots : List ℕ) (p L s : ℕ) → Bool
-holds t slots p L s = let n = slot-number t p L s in occupied (mark-at slots n) && eqb (prefix-at slots n) p
+-- slot s of p's bucket at length L is the party's and holds p
+unfoldable pub holds : Settings → (slots : List ℕ) (party p L s : ℕ) → Bool
+holds t slots party p L s = let n = slot-number t p L s in own party (mark-at slots n) && eqb (prefix-at slots n) p
 
 -- slot s of p's bucket at length L is free
 unfoldable pub free : Settings → (slots : List ℕ) (p L s : ℕ) → Bool
 free t slots p L s = not (occupied (mark-at slots (slot-number t p L s)))
 
--- the lowest slot of p's bucket that holds p, if one does
-unfoldable pub held : Settings → (slots : List ℕ) (p L : ℕ) → Option ℕ
-held t slots p L = lowest (holds t slots p L) (t .s)
+-- the lowest slot of p's bucket that holds p for the party, if one does
+unfoldable pub held : Settings → (slots : List ℕ) (party p L : ℕ) → Option ℕ
+held t slots party p L = lowest (holds t slots party p L) (t .s)
 
 -- the lowest free slot of the bucket
 unfoldable pub vacant : Settings → (slots : List ℕ) (p L : ℕ) → Option ℕ
@@ -148,9 +156,10 @@ unfoldable pub is-some : Option ℕ → Bool
 is-some (some s) = true
 is-some none = false
 
--- p of length L is stored: in a slot of its own bucket or, for length 0, in the default's word
-unfoldable pub stored : Settings → (slots : List ℕ) (p L : ℕ) → Bool
-stored t slots p L = cond (eqb L 0) (occupied (default-mark t slots)) (is-some (held t slots p L))
+-- p of length L is stored for the party: in a slot of its own bucket or, for length 0, by a mark of the party's in its
+-- default's word
+unfoldable pub stored : Settings → (slots : List ℕ) (party p L : ℕ) → Bool
+stored t slots party p L = cond (eqb L 0) (own party (default-mark t slots party)) (is-some (held t slots party p L))
 
 -- ---- Numbers given back for bad input
 
@@ -178,9 +187,9 @@ odd-prefix p L = lies-in (127 * 2 ^ 24) 8 p L || lies-in (224 * 2 ^ 24) 4 p L
 unfoldable pub from-1 : (L : ℕ) → Bool → Bool
 from-1 L bad = cond (eqb L 0) false bad
 
--- p needs a slot: not at length 0, which has none, nor where p is stored and keeps its own
-unfoldable pub needs-slot : Settings → (slots : List ℕ) (p L : ℕ) → Bool
-needs-slot t slots p L = from-1 L (not (stored t slots p L))
+-- p needs a slot: not at length 0, which has none, nor where the party has p stored and it keeps its own
+unfoldable pub needs-slot : Settings → (slots : List ℕ) (party p L : ℕ) → Bool
+needs-slot t slots party p L = from-1 L (not (stored t slots party p L))
 
 -- every slot of the bucket is occupied
 unfoldable pub full : Settings → (slots : List ℕ) (p L : ℕ) → Bool
@@ -202,6 +211,10 @@ runs-short t counters p L = any (λ i. ltb (getD counters i 0) (hits t p L i)) (
 unfoldable pub memory-refusal : Settings → Memory → (after : ℕ) → ℕ
 memory-refusal t m after = refuse (not (in-range t)) 1 (refuse (not (sized t m)) 2 after)
 
+-- 15 straight after them, where a call names its party: there are two, 0 and 1
+unfoldable pub party-refusal : Settings → Memory → (party after : ℕ) → ℕ
+party-refusal t m party after = memory-refusal t m (refuse (ltb 1 party) 15 after)
+
 -- what a route is checked for, memory apart: 3 and 4
 abbrev pub route-checks : (p L after : ℕ) → ℕ
 route-checks p L after = refuse (ltb 32 L) 3 (refuse (loose p L) 4 after)
@@ -211,26 +224,27 @@ abbrev pub add-checks : (p L hop after : ℕ) → ℕ
 add-checks p L hop after = route-checks p L (refuse (odd-prefix p L) 11 (refuse (ltb 65535 hop) 5 after))
 
 -- 3 and 4, which every update checks next
-unfoldable pub route-refusal : Settings → Memory → (p L after : ℕ) → ℕ
-route-refusal t m p L after = memory-refusal t m (route-checks p L after)
+unfoldable pub route-refusal : Settings → Memory → (party p L after : ℕ) → ℕ
+route-refusal t m party p L after = party-refusal t m party (route-checks p L after)
 
 -- what add gives back; 0 is success
-unfoldable pub add-refusal : Settings → Memory → (p L hop : ℕ) → ℕ
-add-refusal t m p L hop =
-    memory-refusal t m
+unfoldable pub add-refusal : Settings → Memory → (party p L hop : ℕ) → ℕ
+add-refusal t m party p L hop =
+    party-refusal t m party
     (add-checks p L hop
-    (refuse (needs-slot t (m .slots) p L && full t (m .slots) p L) 8
-    (refuse (needs-slot t (m .slots) p L && passes-15 t (m .counters) p L) 9 0)))
+    (refuse (needs-slot t (m .slots) party p L && full t (m .slots) p L) 8
+    (refuse (needs-slot t (m .slots) party p L && passes-15 t (m .counters) p L) 9 0)))
 
 -- what withdraw gives back
-unfoldable pub withdraw-refusal : Settings → Memory → (p L : ℕ) → ℕ
-withdraw-refusal t m p L =
-    route-refusal t m p L
-    (refuse (not (stored t (m .slots) p L)) 7 (refuse (from-1 L (runs-short t (m .counters) p L)) 10 0))
+unfoldable pub withdraw-refusal : Settings → Memory → (party p L : ℕ) → ℕ
+withdraw-refusal t m party p L =
+    route-refusal t m party p L
+    (refuse (not (stored t (m .slots) party p L)) 7 (refuse (from-1 L (runs-short t (m .counters) p L)) 10 0))
 
 -- what change gives back
-unfoldable pub change-refusal : Settings → Memory → (p L hop : ℕ) → ℕ
-change-refusal t m p L hop = route-refusal t m p L (refuse (ltb 65535 hop) 5 (refuse (not (stored t (m .slots) p L)) 7 0))
+unfoldable pub change-refusal : Settings → Memory → (party p L hop : ℕ) → ℕ
+change-refusal t m party p L hop =
+    route-refusal t m party p L (refuse (ltb 65535 hop) 5 (refuse (not (stored t (m .slots) party p L)) 7 0))
 
 -- ---- What each call does
 
@@ -261,43 +275,43 @@ step-each step counters (i ∷ places) = step-each step (set counters i (step (g
 unfoldable pub with-slot : (slots : List ℕ) (n p mark : ℕ) → List ℕ
 with-slot slots n p mark = set (set slots (prefix-word n) p) (mark-word n) mark
 
--- the default's word holds a mark
-unfoldable pub with-default : Settings → Memory → (mark : ℕ) → Memory
-with-default t m mark = lent (m .counters) (set (m .slots) (default-word t) mark)
+-- the word of a party's default holds a mark
+unfoldable pub with-default : Settings → Memory → (party mark : ℕ) → Memory
+with-default t m party mark = lent (m .counters) (set (m .slots) (default-word t party) mark)
 
 -- the slot that was found in p's bucket at length L, if one was, holds a prefix and a mark
 unfoldable pub with-found : Settings → (slots : List ℕ) (p L : ℕ) → Option ℕ → (q mark : ℕ) → List ℕ
 with-found t slots p L (some s) q mark = with-slot slots (slot-number t p L s) q mark
 with-found t slots p L none q mark = slots
 
--- change, which add does too where p has its place: the slot that holds p gets a new mark beside the p that it has, and
--- the counters stay
-unfoldable pub changed : Settings → Memory → (p L hop : ℕ) → Memory
-changed t m p L hop =
-    cond (eqb L 0) (with-default t m (mark-of hop))
+-- change, which add does too where p has its place: the slot that holds p for the party gets a new mark beside the p that
+-- it has, and the counters stay
+unfoldable pub changed : Settings → Memory → (party p L hop : ℕ) → Memory
+changed t m party p L hop =
+    cond (eqb L 0) (with-default t m party (mark-of party hop))
     (record {
       counters = m .counters;
-      slots = with-found t (m .slots) p L (held t (m .slots) p L) p (mark-of hop);
+      slots = with-found t (m .slots) p L (held t (m .slots) party p L) p (mark-of party hop);
     })
 
 -- add: where p needs a slot, the lowest free one gets prefix and mark, and at each of the K steps a counter goes up by
 -- one; where it needs none, this is a change
-unfoldable pub added : Settings → Memory → (p L hop : ℕ) → Memory
-added t m p L hop =
-    cond (needs-slot t (m .slots) p L)
+unfoldable pub added : Settings → Memory → (party p L hop : ℕ) → Memory
+added t m party p L hop =
+    cond (needs-slot t (m .slots) party p L)
     (record {
       counters = step-each (λ n. n + 1) (m .counters) (counter-places t p L);
-      slots = with-found t (m .slots) p L (vacant t (m .slots) p L) p (mark-of hop);
+      slots = with-found t (m .slots) p L (vacant t (m .slots) p L) p (mark-of party hop);
     })
-    (changed t m p L hop)
+    (changed t m party p L hop)
 
--- withdraw: the slot that holds p gets two zeros, and at each of the K steps a counter goes down by one
-unfoldable pub withdrawn : Settings → Memory → (p L : ℕ) → Memory
-withdrawn t m p L =
-    cond (eqb L 0) (with-default t m 0)
+-- withdraw: the slot that holds p for the party gets two zeros, and at each of the K steps a counter goes down by one
+unfoldable pub withdrawn : Settings → Memory → (party p L : ℕ) → Memory
+withdrawn t m party p L =
+    cond (eqb L 0) (with-default t m party 0)
     (record {
       counters = step-each (λ n. n - 1) (m .counters) (counter-places t p L);
-      slots = with-found t (m .slots) p L (held t (m .slots) p L) 0 0;
+      slots = with-found t (m .slots) p L (held t (m .slots) party p L) 0 0;
     })
 
 -- each call, as it is given back and as it leaves the memory: clear
@@ -305,16 +319,16 @@ unfoldable pub clear : Settings → Memory → Outcome
 clear t m = unless-refused (memory-refusal t m 0) (zeroed m) m
 
 -- add
-unfoldable pub add : Settings → Memory → (p L hop : ℕ) → Outcome
-add t m p L hop = unless-refused (add-refusal t m p L hop) (added t m p L hop) m
+unfoldable pub add : Settings → Memory → (party p L hop : ℕ) → Outcome
+add t m party p L hop = unless-refused (add-refusal t m party p L hop) (added t m party p L hop) m
 
 -- withdraw
-unfoldable pub withdraw : Settings → Memory → (p L : ℕ) → Outcome
-withdraw t m p L = unless-refused (withdraw-refusal t m p L) (withdrawn t m p L) m
+unfoldable pub withdraw : Settings → Memory → (party p L : ℕ) → Outcome
+withdraw t m party p L = unless-refused (withdraw-refusal t m party p L) (withdrawn t m party p L) m
 
 -- change
-unfoldable pub change : Settings → Memory → (p L hop : ℕ) → Outcome
-change t m p L hop = unless-refused (change-refusal t m p L hop) (changed t m p L hop) m
+unfoldable pub change : Settings → Memory → (party p L hop : ℕ) → Outcome
+change t m party p L hop = unless-refused (change-refusal t m party p L hop) (changed t m party p L hop) m
 
 -- the filter of length L claims p: all its K counters are nonzero
 unfoldable pub claims : Settings → (counters : List ℕ) (p L : ℕ) → Bool
@@ -353,48 +367,50 @@ abbrev pub found-or : Settings → (p L probes : ℕ) → Option ℕ → Place �
 found-or t p L probes (some s) after = At L probes (slot-number t p L s)
 found-or t p L probes none after = after
 
--- the buckets of the address at these lengths are searched in order, each one probe more
-unfoldable pub search : Settings → (slots : List ℕ) (address probes : ℕ) → List ℕ → Place
-search t slots address probes [] = Absent Full
-search t slots address probes (L ∷ Ls) =
+-- the buckets of the address at these lengths are searched in order for the party's prefix, each one probe more
+unfoldable pub search : Settings → (slots : List ℕ) (party address probes : ℕ) → List ℕ → Place
+search t slots party address probes [] = Absent Full
+search t slots party address probes (L ∷ Ls) =
     let p = prefix address L in
-    found-or t p L (probes + 1) (held t slots p L) (search t slots address (probes + 1) Ls)
+    found-or t p L (probes + 1) (held t slots party p L) (search t slots party address (probes + 1) Ls)
 
--- what a slot of this mark answers, found at length L after so many probes
-unfoldable pub route-answer : (mark L probes : ℕ) → Answer
-route-answer mark L probes = record { refusal = 0; found = true; hop = hop-of mark; length = L; probes = probes }
+-- what a slot of this mark, which is the party's, answers, found at length L after so many probes
+unfoldable pub route-answer : (party mark L probes : ℕ) → Answer
+route-answer party mark L probes =
+    record { refusal = 0; found = true; hop = hop-of party mark; length = L; probes = probes }
 
--- what the default answers after so many probes; none where its mark is free
-unfoldable pub default-answer : (mark probes : ℕ) → Answer
-default-answer mark probes =
+-- what the party's default answers after so many probes; none where its mark is not the party's
+unfoldable pub default-answer : (party mark probes : ℕ) → Answer
+default-answer party mark probes =
     record {
       refusal = 0;
-      found = occupied mark;
-      hop = cond (occupied mark) (hop-of mark) 0;
+      found = own party mark;
+      hop = cond (own party mark) (hop-of party mark) 0;
       length = 0;
       probes = probes;
     }
 
--- what a search's place answers: its slot's hop; where there is none the default, after as many probes as the vector has ones
-unfoldable pub place-answer : Settings → (slots : List ℕ) (ones : ℕ) → Place → Answer
-place-answer t slots ones (At L probes n) = route-answer (mark-at slots n) L probes
-place-answer t slots ones (Absent vacancy) = default-answer (default-mark t slots) ones
+-- what a search's place answers the party: its slot's hop; where there is none the default, after as many probes as the
+-- vector has ones
+unfoldable pub place-answer : Settings → (slots : List ℕ) (party ones : ℕ) → Place → Answer
+place-answer t slots party ones (At L probes n) = route-answer party (mark-at slots n) L probes
+place-answer t slots party ones (Absent vacancy) = default-answer party (default-mark t slots party) ones
 
 -- the answer that carries a refusal
 unfoldable pub refused : (refusal : ℕ) → Answer
 refused refusal = record { refusal = refusal; found = false; hop = 0; length = 0; probes = 0 }
 
 -- what the set bits of the match vector, from the highest down, and then the default answer
-unfoldable pub answer-of : Settings → Memory → (address : ℕ) → Answer
-answer-of t m address =
+unfoldable pub answer-of : Settings → Memory → (party address : ℕ) → Answer
+answer-of t m party address =
     let lengths = set-bits (vector-of t (m .counters) address) in
-    place-answer t (m .slots) (length lengths) (search t (m .slots) address 0 lengths)
+    place-answer t (m .slots) party (length lengths) (search t (m .slots) party address 0 lengths)
 
 -- lookup, as it is given back
-unfoldable pub lookup : Settings → Memory → (address : ℕ) → Answer
-lookup t m address =
-    let refusal = memory-refusal t m 0 in
-    cond (eqb refusal 0) (answer-of t m address) (refused refusal)
+unfoldable pub lookup : Settings → Memory → (party address : ℕ) → Answer
+lookup t m party address =
+    let refusal = party-refusal t m party 0 in
+    cond (eqb refusal 0) (answer-of t m party address) (refused refusal)
 
 -- ---- A list of addresses
 
@@ -407,9 +423,9 @@ unfoldable pub answer-words : Answer → List ℕ
 answer-words r = one-if (r .found) ∷ r .hop ∷ r .length ∷ r .probes ∷ []
 
 -- the four words of each address's lookup, one address after the other
-unfoldable pub list-words : Settings → Memory → (addresses : List ℕ) → List ℕ
-list-words t m [] = []
-list-words t m (address ∷ addresses) = answer-words (lookup t m address) ++ list-words t m addresses
+unfoldable pub list-words : Settings → Memory → (party : ℕ) (addresses : List ℕ) → List ℕ
+list-words t m party [] = []
+list-words t m party (address ∷ addresses) = answer-words (lookup t m party address) ++ list-words t m party addresses
 
 -- what a list of addresses is given back, and the results as it leaves them
 pub record Listed : Type 0 where
@@ -428,14 +444,15 @@ listed refusal after before = answered refusal (cond (eqb refusal 0) after befor
 unfoldable pub fourfold : (addresses results : ℕ) → Bool
 fourfold addresses results = eqb results (4 * addresses)
 
--- 1, 2 and 18, which every list checks, of so many addresses and results
-unfoldable pub list-refusal : Settings → Memory → (addresses results after : ℕ) → ℕ
-list-refusal t m addresses results after = memory-refusal t m (refuse (not (fourfold addresses results)) 18 after)
+-- 1, 2, 15 and 18, which every list checks, of so many addresses and results
+unfoldable pub list-refusal : Settings → Memory → (party addresses results after : ℕ) → ℕ
+list-refusal t m party addresses results after =
+    party-refusal t m party (refuse (not (fourfold addresses results)) 18 after)
 
 -- a list of addresses, as it is given back and as it leaves the results
-unfoldable pub lookup-list : Settings → Memory → (addresses results : List ℕ) → Listed
-lookup-list t m addresses results =
-    listed (list-refusal t m (length addresses) (length results) 0) (list-words t m addresses) results
+unfoldable pub lookup-list : Settings → Memory → (party : ℕ) (addresses results : List ℕ) → Listed
+lookup-list t m party addresses results =
+    listed (list-refusal t m party (length addresses) (length results) 0) (list-words t m party addresses) results
 
 -- ---- The numbers as they cross to C
 
@@ -461,8 +478,8 @@ unfoldable pub vector-number : Vector → ℕ
 vector-number r = r .refusal * 2 ^ 48 + r .vector
 
 -- lookup from C: the slots cross as bytes
-unfoldable pub c-lookup : Settings → (counters slots : List ℕ) (address : ℕ) → ℕ
-c-lookup t counters slots address = answer-number (lookup t (lent counters (words slots)) address)
+unfoldable pub c-lookup : Settings → (counters slots : List ℕ) (party address : ℕ) → ℕ
+c-lookup t counters slots party address = answer-number (lookup t (lent counters (words slots)) party address)
 
 -- match vector from C
 unfoldable pub c-match-vector : Settings → (counters slots : List ℕ) (address : ℕ) → ℕ
@@ -475,13 +492,13 @@ bytes-of [] = []
 bytes-of (word ∷ words) = word % 2 ^ 8 ∷ word / 2 ^ 8 % 2 ^ 8 ∷ word / 2 ^ 16 % 2 ^ 8 ∷ word / 2 ^ 24 ∷ bytes-of words
 
 -- what a list of addresses gives back to C: 18 also where four does not divide the count of its bytes
-unfoldable pub c-list-refusal : Settings → (counters slots addresses results : List ℕ) → ℕ
-c-list-refusal t counters slots addresses results =
-    list-refusal t (lent counters (words slots)) (length addresses) (length results)
+unfoldable pub c-list-refusal : Settings → (counters slots : List ℕ) (party : ℕ) (addresses results : List ℕ) → ℕ
+c-list-refusal t counters slots party addresses results =
+    list-refusal t (lent counters (words slots)) party (length addresses) (length results)
     (refuse (not (eqb (length addresses % 4) 0)) 18 0)
 
 -- a list of addresses from C: slots, addresses and results cross as bytes
-unfoldable pub c-lookup-list : Settings → (counters slots addresses results : List ℕ) → Listed
-c-lookup-list t counters slots addresses results =
-    listed (c-list-refusal t counters slots addresses results)
-    (bytes-of (list-words t (lent counters (words slots)) (words addresses))) results
+unfoldable pub c-lookup-list : Settings → (counters slots : List ℕ) (party : ℕ) (addresses results : List ℕ) → Listed
+c-lookup-list t counters slots party addresses results =
+    listed (c-list-refusal t counters slots party addresses results)
+    (bytes-of (list-words t (lent counters (words slots)) party (words addresses))) results

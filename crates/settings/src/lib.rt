@@ -1,9 +1,10 @@
-// What every call checks first: settings in their ranges, and lent memory of exactly their sizes.
+// What every call checks first: settings in their ranges, and lent memory of exactly their sizes; and then the
+// party of a call that names one.
 ghost use mathlib.Core.Path.{_≡_};
 ghost use mathlib.Core.Bool.{true};
 ghost use lib.ListN.{length};
 ghost use Rattle.rules.specs.Tools.{within};
-ghost use Rattle.rules.specs.Table.{Memory, lent, list-in-range, in-range, counters-size, slots-size, memory-refusal};
+ghost use Rattle.rules.specs.Table.{Memory, lent, list-in-range, in-range, counters-size, slots-size, memory-refusal, party-refusal};
 use rules::Settings;
 
 // Whether a number is low, high or between them.
@@ -60,7 +61,7 @@ fn slots_asked(settings: Settings) -> usize
     requires { ⌜ in-range settings ≡ true ⌝ }
     ensures { λ r. ⌜ r ≡ slots-size settings ⌝ }
 {
-    (64 << (settings.e as usize)) * (settings.s as usize) + 1
+    (64 << (settings.e as usize)) * (settings.s as usize) + 2
 }
 
 // 1 or 2 for memory of these many counters and words, or 0 where it is what the settings ask.
@@ -85,4 +86,25 @@ pub fn refuse_memory(settings: Settings, counters: &[u8], slots: &[u32]) -> u32
     ensures { λ r. ⌜ r ≡ memory-refusal settings (lent (now (counters .entry)) (now (slots .entry))) 0 ⌝ }
 {
     refuse_sizes(settings, counters.len(), slots.len())
+}
+
+// 1, 2 or 15 for a call that names its party, by how many counters and words its memory has; or 0.
+pub fn refuse_party_sizes(settings: Settings, counters: usize, slots: usize, party: u32) -> u32
+    ensures { λ r. ⌜ ((m : Memory) → length (m .counters) ≡ counters → length (m .slots) ≡ slots → r ≡ party-refusal settings m party 0) ⌝ }
+{
+    let refusal = refuse_sizes(settings, counters, slots);
+    if refusal != 0 {
+        return refusal;
+    }
+    if 1 < party {
+        return 15;
+    }
+    0
+}
+
+// 1, 2 or 15, or 0 where the settings and the memory fit and the party is one of the two.
+pub fn refuse_party(settings: Settings, counters: &[u8], slots: &[u32], party: u32) -> u32
+    ensures { λ r. ⌜ r ≡ party-refusal settings (lent (now (counters .entry)) (now (slots .entry))) party 0 ⌝ }
+{
+    refuse_party_sizes(settings, counters.len(), slots.len(), party)
 }

@@ -10,7 +10,7 @@ use Rattle.rules.specs.declared.Settings.{Settings}
 use Rattle.rules.specs.declared.Answer.{Answer}
 use Rattle.rules.proofs.Worked.{ip, T}
 use Rattle.rules.specs.Calls.{Call, Add, Withdraw}
-use Rattle.promises.specs.History.{stored-by}
+use Rattle.promises.specs.History.{routes-of, stored-by}
 use Rattle.promises.specs.Demands.{number-given, longest}
 use Rattle.promises.proofs.Matches.{answer-by}
 use Rattle.promises.proofs.Showing.{sevens, showing}
@@ -35,41 +35,48 @@ same-answers one other =
     && (cond (one .found) (other .found) (not (other .found))
     && (eqb (one .hop) (other .hop) && (eqb (one .length) (other .length) && eqb (one .probes) (other .probes))))
 
--- after the calls, a lookup has the answer that is due
-unfoldable pub right-answer : Settings → Acting → Asking → List Call → (address : ℕ) → Bool
-right-answer t acting asking calls address =
+-- after the calls, a lookup of the party's has the answer that is due
+unfoldable pub right-answer : Settings → Acting → Asking → List Call → (party address : ℕ) → Bool
+right-answer t acting asking calls party address =
     let ran = history-by acting t sevens calls in
     let routes = stored-by calls (ran .answers) in
-    same-answers (asking t (ran .last) address) (answer-by t routes address (longest address routes))
+    same-answers (asking t (ran .last) party address) (answer-by t routes address (longest address (routes-of party routes)))
 
 -- ---- The histories
 
 -- 10/8 with hop 7, and 10.1/16 with hop 9
 unfoldable pub add-8 : Call
-add-8 = Add (ip 10 0 0 0) 8 7
+add-8 = Add 0 (ip 10 0 0 0) 8 7
 
 unfoldable pub add-16 : Call
-add-16 = Add (ip 10 1 0 0) 16 9
+add-16 = Add 0 (ip 10 1 0 0) 16 9
 
 -- 10/8 and 8/8 share a bucket of two and both their positions
 unfoldable pub pair : List Call
-pair = add-8 ∷ Add (ip 8 0 0 0) 8 5 ∷ []
+pair = add-8 ∷ Add 0 (ip 8 0 0 0) 8 5 ∷ []
 
 -- 10/8 added again, with hop 1
 unfoldable pub again : List Call
-again = add-8 ∷ Add (ip 10 0 0 0) 8 1 ∷ []
+again = add-8 ∷ Add 0 (ip 10 0 0 0) 8 1 ∷ []
 
 -- three routes of length 32
 unfoldable pub three : List Call
-three = Add 1 32 1 ∷ Add 2 32 1 ∷ Add 3 32 1 ∷ []
+three = Add 0 1 32 1 ∷ Add 0 2 32 1 ∷ Add 0 3 32 1 ∷ []
 
 -- a fourth, and the three withdrawn again
 unfoldable pub four-then-one : List Call
-four-then-one = three ++ Add 4 32 1 ∷ Withdraw 1 32 ∷ Withdraw 2 32 ∷ Withdraw 3 32 ∷ []
+four-then-one = three ++ Add 0 4 32 1 ∷ Withdraw 0 1 32 ∷ Withdraw 0 2 32 ∷ Withdraw 0 3 32 ∷ []
+
+-- 10/8 of the other party, with hop 5; and 10/8 of both
+unfoldable pub other-8 : Call
+other-8 = Add 1 (ip 10 0 0 0) 8 5
+
+unfoldable pub both-8 : List Call
+both-8 = add-8 ∷ other-8 ∷ []
 
 -- to unfold this is to unfold all that is due, and all that a program computes with
 unfoldable pub agreeing : ℕ
-unfolding right-number right-answer same-answers add-8 add-16 pair again three four-then-one run-by history-by our-calls our-lookups showing
+unfolding right-number right-answer same-answers add-8 add-16 pair again three four-then-one other-8 both-8 run-by history-by our-calls our-lookups showing
 agreeing = 0
 
 -- ---- Ours
@@ -83,18 +90,22 @@ every (right ∷ others) = right && every others
 numbers-agree :
     every (
     right-number T our-calls [] add-8
-    ∷ right-number T our-calls (add-8 ∷ []) (Withdraw (ip 10 0 0 0) 8)
+    ∷ right-number T our-calls (add-8 ∷ []) (Withdraw 0 (ip 10 0 0 0) 8)
     ∷ right-number T our-calls (add-8 ∷ []) add-8
-    ∷ right-number T our-calls (add-8 ∷ add-16 ∷ []) (Withdraw (ip 10 1 0 0) 16)
-    ∷ right-number T our-calls pair (Add (ip 8 0 0 0) 8 6)
-    ∷ right-number T our-calls (add-8 ∷ Withdraw (ip 10 0 0 0) 8 ∷ []) (Withdraw (ip 10 0 0 0) 8)
-    ∷ right-number T our-calls pair (Withdraw (ip 10 0 0 0) 8)
-    ∷ right-number Z our-calls three (Add 4 32 1)
-    ∷ right-number Z our-calls three (Add 3 32 6)
-    ∷ right-number T our-calls [] (Add (ip 127 0 0 0) 8 1)
-    ∷ right-number T our-calls [] (Add (ip 224 0 0 0) 3 1)
-    ∷ right-number T our-calls [] (Withdraw (ip 127 0 0 0) 8)
-    ∷ right-number T our-calls (again ++ Withdraw (ip 10 0 0 0) 8 ∷ []) (Withdraw (ip 10 0 0 0) 8)
+    ∷ right-number T our-calls (add-8 ∷ add-16 ∷ []) (Withdraw 0 (ip 10 1 0 0) 16)
+    ∷ right-number T our-calls pair (Add 0 (ip 8 0 0 0) 8 6)
+    ∷ right-number T our-calls (add-8 ∷ Withdraw 0 (ip 10 0 0 0) 8 ∷ []) (Withdraw 0 (ip 10 0 0 0) 8)
+    ∷ right-number T our-calls pair (Withdraw 0 (ip 10 0 0 0) 8)
+    ∷ right-number Z our-calls three (Add 0 4 32 1)
+    ∷ right-number Z our-calls three (Add 0 3 32 6)
+    ∷ right-number T our-calls [] (Add 0 (ip 127 0 0 0) 8 1)
+    ∷ right-number T our-calls [] (Add 0 (ip 224 0 0 0) 3 1)
+    ∷ right-number T our-calls [] (Withdraw 0 (ip 127 0 0 0) 8)
+    ∷ right-number T our-calls (again ++ Withdraw 0 (ip 10 0 0 0) 8 ∷ []) (Withdraw 0 (ip 10 0 0 0) 8)
+    ∷ right-number T our-calls both-8 (Withdraw 0 (ip 10 0 0 0) 8)
+    ∷ right-number T our-calls (other-8 ∷ []) (Withdraw 0 (ip 10 0 0 0) 8)
+    ∷ right-number T our-calls both-8 (Add 1 (ip 8 0 0 0) 8 1)
+    ∷ right-number T our-calls [] (Add 2 (ip 10 0 0 0) 8 1)
     ∷ []
     ) ≡ true
 unfolding every agreeing
@@ -103,10 +114,13 @@ numbers-agree = refl
 -- as finds-longest, says-none and probes-counted say
 answers-agree :
     every (
-    right-answer T our-calls our-lookups [] 0
-    ∷ right-answer T our-calls our-lookups (add-8 ∷ []) (ip 10 2 2 3)
-    ∷ right-answer T our-calls our-lookups (add-8 ∷ add-16 ∷ []) (ip 10 2 2 3)
-    ∷ right-answer T our-calls our-lookups again (ip 10 2 2 3)
+    right-answer T our-calls our-lookups [] 0 0
+    ∷ right-answer T our-calls our-lookups (add-8 ∷ []) 0 (ip 10 2 2 3)
+    ∷ right-answer T our-calls our-lookups (add-8 ∷ add-16 ∷ []) 0 (ip 10 2 2 3)
+    ∷ right-answer T our-calls our-lookups again 0 (ip 10 2 2 3)
+    ∷ right-answer T our-calls our-lookups (other-8 ∷ []) 0 (ip 10 2 2 3)
+    ∷ right-answer T our-calls our-lookups both-8 0 (ip 10 2 2 3)
+    ∷ right-answer T our-calls our-lookups both-8 1 (ip 10 2 2 3)
     ∷ []
     ) ≡ true
 unfolding every agreeing
@@ -115,9 +129,9 @@ answers-agree = refl
 -- and so of what withdrawals leave
 answers-left-agree :
     every (
-    right-answer T our-calls our-lookups (again ++ Withdraw (ip 10 0 0 0) 8 ∷ []) (ip 10 2 2 3)
-    ∷ right-answer T our-calls our-lookups (pair ++ Withdraw (ip 8 0 0 0) 8 ∷ []) (ip 10 2 2 3)
-    ∷ right-answer Z our-calls our-lookups four-then-one 4
+    right-answer T our-calls our-lookups (again ++ Withdraw 0 (ip 10 0 0 0) 8 ∷ []) 0 (ip 10 2 2 3)
+    ∷ right-answer T our-calls our-lookups (pair ++ Withdraw 0 (ip 8 0 0 0) 8 ∷ []) 0 (ip 10 2 2 3)
+    ∷ right-answer Z our-calls our-lookups four-then-one 0 4
     ∷ []
     ) ≡ true
 unfolding every agreeing

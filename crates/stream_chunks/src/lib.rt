@@ -7,7 +7,7 @@ ghost use lib.ListN.{length};
 ghost use Rattle.rules.specs.Table.{lent, refuse};
 ghost use Rattle.stream_format.specs.Chunks.{chunk-refusal, stage-number};
 use rules::Settings;
-use settings::refuse_memory;
+use settings::refuse_party;
 use stream_format::Stage;
 
 // 19 for a chunk above 65,536 bytes or where a count is too high, or 0.
@@ -23,22 +23,23 @@ fn refuse_size(high: bool, chunk: &[u8]) -> u32
     0
 }
 
-// 19, 1 or 2, or 0 where the chunk can be taken.
+// 19, 1, 2 or 15, or 0 where the chunk can be taken.
 pub fn refuse_chunk(
     settings: Settings,
     counters: &[u8],
     slots: &[u32],
+    party: u32,
     high: bool,
     chunk: &[u8],
 ) -> u32
-    ensures { λ r. ⌜ r ≡ chunk-refusal settings (lent (now (counters .entry)) (now (slots .entry))) high (now (chunk .entry)) ⌝ }
+    ensures { λ r. ⌜ r ≡ chunk-refusal settings (lent (now (counters .entry)) (now (slots .entry))) party high (now (chunk .entry)) ⌝ }
 {
     let size = refuse_size(high, chunk);
-    let memory = refuse_memory(settings, counters, slots);
+    let table = refuse_party(settings, counters, slots, party);
     if size != 0 {
         return size;
     }
-    memory
+    table
 }
 
 // The number that a stage gives back: the one that ended the stream, or 0.

@@ -9,9 +9,9 @@ use lib.Dec.{ltb}
 use lib.ListN.{length, getD}
 use borrow.Author.Tests.{ltb-false, ne-eqb}
 use Rattle.rules.specs.declared.Settings.{Settings}
-use Rattle.rules.specs.Table.{lent, memory-refusal}
+use Rattle.rules.specs.Table.{lent, party-refusal}
 use Rattle.rules.specs.Calls.{run}
-use Rattle.rules.proofs.Refusals.{Fitted, passed, memory-passed}
+use Rattle.rules.proofs.Refusals.{Fitted, passed, party-passed}
 use Rattle.stream_format.specs.declared.Stage.{Stage}
 use Rattle.stream_format.specs.Streams.{stream, chunk-taken}
 use Rattle.stream_format.specs.Kept.{ended-word, is-ended, stage-of, words-of}
@@ -38,19 +38,22 @@ pub neither : (a b : Bool) → a || b ≡ false → (a ≡ false) × (b ≡ fals
 neither true b e = absurd (false≢true (sym e))
 neither false b e = (refl, e)
 
-pub record Accepted (t : Settings) (counters slots : List ℕ) (high : Bool) (chunk : List ℕ) : Type 0 where
+pub record Accepted (t : Settings) (counters slots : List ℕ) (party : ℕ) (high : Bool) (chunk : List ℕ) : Type 0 where
   pub memory : Fitted t counters slots
+  pub known : party ≤ 1
   pub low : high ≡ false
   pub short : length chunk ≤ 65536
 
-pub chunk-accepted : (t : Settings) (counters slots : List ℕ) (high : Bool) (chunk : List ℕ) → chunk-refusal t (lent counters slots) high chunk ≡ 0
-    → Accepted t counters slots high chunk
+pub chunk-accepted : (t : Settings) (counters slots : List ℕ) (party : ℕ) (high : Bool) (chunk : List ℕ)
+    → chunk-refusal t (lent counters slots) party high chunk ≡ 0 → Accepted t counters slots party high chunk
 unfolding chunk-refusal
-chunk-accepted t counters slots high chunk e =
-    let first = passed (ltb 65536 (length chunk) || high) 18 (memory-refusal t (lent counters slots) 0) e in
+chunk-accepted t counters slots party high chunk e =
+    let first = passed (ltb 65536 (length chunk) || high) 18 (party-refusal t (lent counters slots) party 0) e in
     let both = neither (ltb 65536 (length chunk)) high (first .0) in
+    let fitted = party-passed t counters slots party 0 (first .1) .0 in
     record {
-      memory = memory-passed t counters slots 0 (first .1) .0;
+      memory = fitted .memory;
+      known = fitted .known;
       low = both .1;
       short = ltb-false _ _ (both .0);
     }
@@ -63,7 +66,7 @@ module _ {C : Type 0} (t : Settings) (r : Reading C) (counters slots counts word
 
   -- why it is not taken, 0 where it is
   abbrev why : ℕ
-  why = chunk-refusal t (lent counters slots) (r .counts-high (r .counts-of counts)) chunk
+  why = chunk-refusal t (lent counters slots) (r .party) (r .counts-high (r .counts-of counts)) chunk
 
   -- After the end it is given the number that ended the stream.
   pub after-end : (getD words 0 0 ≡ 0 → ⊥) → {number : ℕ} → number ≡ stage-number (stage-of (r .kind) words room)

@@ -6,7 +6,7 @@ use mathlib.Core.List.{List}
 use lib.ListN.{length}
 use lib.Dec.{ltb, eqb}
 use Rattle.rules.specs.declared.Settings.{Settings}
-use Rattle.rules.specs.Table.{Memory, lent, refuse, memory-refusal}
+use Rattle.rules.specs.Table.{Memory, lent, refuse, party-refusal}
 use Rattle.rules.specs.Calls.{Call, run}
 use Rattle.stream_format.specs.declared.Kind.{Kind}
 use Rattle.stream_format.specs.declared.Stage.{Stage}
@@ -18,6 +18,8 @@ use Rattle.stream_format.specs.Kept.{is-ended, ended-number, stage-of, w
 
 -- what the records of one kind say, and what is counted of them
 pub record Reading (C : Type 0) : Type 0 where
+  -- the party that the call names: its calls are this party's
+  pub party : ℕ
   pub kind : Kind
   -- the number that a record ends the stream with; 0 where the stream goes on
   pub ends-with : (bytes : List ℕ) → ℕ
@@ -55,9 +57,10 @@ doing t r = record { reads = record-done t r; steps-over = record-over r }
 
 -- ---- One chunk
 
--- 19 for a chunk above 65,536 bytes or for a count that is too high at its start; then 1 and 2, as every call
-unfoldable pub chunk-refusal : Settings → Memory → (high : Bool) (chunk : List ℕ) → ℕ
-chunk-refusal t m high chunk = refuse (ltb 65536 (length chunk) || high) 19 (memory-refusal t m 0)
+-- 19 for a chunk above 65,536 bytes or for a count that is too high at its start; then 1, 2 and 15, as every call that names
+-- its party
+unfoldable pub chunk-refusal : Settings → Memory → (party : ℕ) (high : Bool) (chunk : List ℕ) → ℕ
+chunk-refusal t m party high chunk = refuse (ltb 65536 (length chunk) || high) 19 (party-refusal t m party 0)
 
 -- what a chunk gives back and leaves: number, the words of the counts and of the stream, the room, and the table
 pub record Chunked : Type 0 where
@@ -102,7 +105,7 @@ as-it-was number m counts words room = record { number = number; counts = counts
 -- whatever else it is.
 unfoldable pub take-chunk : {C : Type 0} → Settings → Reading C → Memory → (counts words room chunk : List ℕ) → Chunked
 take-chunk t r m counts words room chunk =
-    let refusal = chunk-refusal t m (r .counts-high (r .counts-of counts)) chunk in
+    let refusal = chunk-refusal t m (r .party) (r .counts-high (r .counts-of counts)) chunk in
     cond (is-ended words) (as-it-was (ended-number words) m counts words room)
     (cond (eqb refusal 0)
     (lent-back r (chunk-taken (r .kind) (doing t r) (taken-up r m counts words room) chunk))

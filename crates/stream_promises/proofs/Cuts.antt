@@ -1,5 +1,6 @@
 -- However a stream is cut into chunks, table, counts and final number are the same: a chunk that is taken does what its bytes do,
--- and what is kept between two chunks means the very stream that the first one left.
+-- and what is kept between two chunks means the very stream that the first one left. All the chunks are of one reading, so of one
+-- party.
 use Prim.Native.Nat.{ℕ}
 use mathlib.Core.Path.{_≡_, refl, sym, ap, ap₂, _∙_}
 use mathlib.Core.Bool.{true, false, cond, true≢false}

@@ -8,7 +8,7 @@ use lib.ListN.{length}
 use lib.Pow.{areBytes}
 use Rattle.rules.specs.Calls.{all-word-sized}
 use Rattle.stream_format.specs.Chunks.{Reading}
-use Rattle.stream_promises.specs.Noted.{Noted, Read, Over, some-high}
+use Rattle.stream_promises.specs.Noted.{Noted, Read, Over, all-by, some-high}
 
 -- these counts are what their words mean
 abbrev pub Meant : {C : Type 0} → Reading C → C → Type 0
@@ -18,7 +18,9 @@ Meant r counts = r .counts-of (r .counts-words counts) ≡ counts
 pub record Lawful {C : Type 0} (r : Reading C) (many : ℕ) (counted : C → List Noted → (answers : List ℕ) → C) : Type 0 where
   -- a record ends the stream with 12, or not at all
   pub ends : (bytes : List ℕ) → (r .ends-with bytes ≡ 0) ⊎ (r .ends-with bytes ≡ 12)
-  -- the calls of a record that is of bytes have prefixes of 32 bits
+  -- the calls of a record are the party's,
+  pub own : (bytes : List ℕ) → all-by (r .party) (r .calls bytes) ≡ true
+  -- and those of one that is of bytes have prefixes of 32 bits
   pub sized : (bytes : List ℕ) → areBytes bytes ≡ true → all-word-sized (r .calls bytes) ≡ true
   -- the counts that a chunk is given, and those with a record more, are what their words mean
   pub of-meant : (words : List ℕ) → Meant r (r .counts-of words)

@@ -1,15 +1,17 @@
 -- What is promised of a chunk after any history. A chunk is its single calls (proofs/Singles.antt), so it only makes the history
 -- longer, and all that crates/promises says of lookups and updates holds after it as before. What is said here is what the chunk
--- itself is given, by its bytes, what was kept of those before it, what its records say and the stored routes.
-use Prim.Native.Nat.{ℕ}
+-- itself is given, by its party, its bytes, what was kept of those before it, what its records say and the stored routes.
+use Prim.Native.Nat.{ℕ, _≤_, _<_}
 use mathlib.Core.Path.{_≡_, refl, sym, _∙_}
 use mathlib.Core.Bool.{Bool, true, false, true≢false, false≢true}
 use mathlib.Core.List.{List, _++_, append-cancel-left}
 use mathlib.Core.Logic.{_↔_}
 use native.Mathlib.Omega.{arith}
+use lib.Dec.{ltb}
 use lib.Pow.{areBytes}
+use borrow.Author.Tests.{ltb-true, ltb-false, lt-ltb, le-ltb}
 use Rattle.rules.specs.declared.Settings.{Settings}
-use Rattle.rules.specs.Table.{Memory, refuse}
+use Rattle.rules.specs.Table.{Memory, refuse, party-refusal}
 use Rattle.rules.specs.Calls.{Call, run}
 use Rattle.stream_format.specs.Kept.{is-ended}
 use Rattle.stream_format.specs.Chunks.{Reading, chunk-refusal, Chunked, take-chunk}
@@ -22,16 +24,24 @@ use Rattle.stream_promises.proofs.Lawful.{Lawful}
 use Rattle.stream_promises.proofs.Refused.{chunk-checks, given-refusal, taken-unrefused}
 use Rattle.stream_promises.proofs.Singles.{chunk-single, chunk-counted, same-number, same-given}
 
--- a chain of one check
-only-19 : (over : Bool) → (refuse over 19 0 ≡ 19) ↔ (over ≡ true)
+-- a chain of two checks: the limit, and then the party
+first-19 : (over unknown : Bool) → (refuse over 19 (refuse unknown 15 0) ≡ 19) ↔ (over ≡ true)
 unfolding refuse
-only-19 true = (λ _. refl, λ _. refl)
-only-19 false = (λ e. absurd (omega arith), λ over. absurd (false≢true over))
+first-19 true unknown = (λ _. refl, λ _. refl)
+first-19 false true = (λ e. absurd (omega arith), λ over. absurd (false≢true over))
+first-19 false false = (λ e. absurd (omega arith), λ over. absurd (false≢true over))
 
-else-0 : (over : Bool) → (refuse over 19 0 ≡ 0) ↔ (over ≡ false)
+then-15 : (over unknown : Bool) → (refuse over 19 (refuse unknown 15 0) ≡ 15) ↔ ((over ≡ false) × (unknown ≡ true))
 unfolding refuse
-else-0 true = (λ e. absurd (omega arith), λ within. absurd (true≢false within))
-else-0 false = (λ _. refl, λ _. refl)
+then-15 true unknown = (λ e. absurd (omega arith), λ met. absurd (true≢false (met .0)))
+then-15 false true = (λ _. (refl, refl), λ _. refl)
+then-15 false false = (λ e. absurd (omega arith), λ met. absurd (false≢true (met .1)))
+
+else-0 : (over unknown : Bool) → (refuse over 19 (refuse unknown 15 0) ≡ 0) ↔ ((over ≡ false) × (unknown ≡ false))
+unfolding refuse
+else-0 true unknown = (λ e. absurd (omega arith), λ unmet. absurd (true≢false (unmet .0)))
+else-0 false true = (λ e. absurd (omega arith), λ unmet. absurd (true≢false (unmet .1)))
+else-0 false false = (λ _. (refl, refl), λ _. refl)
 
 -- ---- One chunk more
 
@@ -53,9 +63,10 @@ module _ {C : Type 0} {r : Reading C} {many : ℕ} {counted : C → List Noted �
     abbrev routes : List Route
     routes = stored-by calls answers
 
-    -- Settings and sizes are not at fault, so that it is refused by its length and the counts alone.
-    chunk-checked : chunk-refusal t m (r .counts-high (r .counts-of counts)) chunk ≡ refuse (over-limit many counts chunk) 19 0
-    chunk-checked = chunk-checks law t m counts words room chunk ∙ rw (checks-passed history 0)
+    -- Settings and sizes are not at fault, so that it is refused by its length, the counts and the party alone.
+    chunk-checked : chunk-refusal t m (r .party) (r .counts-high (r .counts-of counts)) chunk ≡ refuse (over-limit many counts chunk) 19 (refuse (ltb 1 (r .party)) 15 0)
+    unfolding party-refusal
+    chunk-checked = chunk-checks law t m counts words room chunk ∙ rw (checks-passed history (refuse (ltb 1 (r .party)) 15 0))
 
     module _ (on : is-ended words ≡ false) where
       -- Where the stream goes on, it is given 19 exactly if the chunk is too long or a count too high,
@@ -63,15 +74,27 @@ module _ {C : Type 0} {r : Reading C} {many : ℕ} {counted : C → List Noted �
       unfolding untaken
       refused-over =
           let given = given-refusal law t m counts words room chunk on 19 refl in
-          let only = only-19 (over-limit many counts chunk) in
-          (λ e. only .0 (sym chunk-checked ∙ given .0 e), λ over. given .1 (chunk-checked ∙ only .1 over))
+          let first = first-19 (over-limit many counts chunk) (ltb 1 (r .party)) in
+          (λ e. first .0 (sym chunk-checked ∙ given .0 e), λ over. given .1 (chunk-checked ∙ first .1 over))
 
-      -- and is taken if not, as 1 and 2 are never given.
-      pub taken-within : (untaken (its .number) ≡ false) ↔ (over-limit many counts chunk ≡ false)
+      -- 15 exactly if neither is so and its party is above 1,
+      pub refused-unknown : (its .number ≡ 15) ↔ ((over-limit many counts chunk ≡ false) × (1 < r .party))
+      unfolding untaken
+      refused-unknown =
+          let given = given-refusal law t m counts words room chunk on 15 refl in
+          let second = then-15 (over-limit many counts chunk) (ltb 1 (r .party)) in (
+            λ e. let met = second .0 (sym chunk-checked ∙ given .0 e) in (met .0, ltb-true 1 (r .party) (met .1)),
+            λ met. given .1 (chunk-checked ∙ second .1 (met .0, lt-ltb 1 (r .party) (met .1))),
+          )
+
+      -- and is taken if neither is so and its party is 0 or 1, as 1 and 2 are never given.
+      pub taken-within : (untaken (its .number) ≡ false) ↔ ((over-limit many counts chunk ≡ false) × (r .party ≤ 1))
       taken-within =
           let given = taken-unrefused law t m counts words room chunk on in
-          let only = else-0 (over-limit many counts chunk) in
-          (λ good. only .0 (sym chunk-checked ∙ given .0 good), λ within. given .1 (chunk-checked ∙ only .1 within))
+          let none = else-0 (over-limit many counts chunk) (ltb 1 (r .party)) in (
+            λ good. let unmet = none .0 (sym chunk-checked ∙ given .0 good) in (unmet .0, ltb-false 1 (r .party) (unmet .1)),
+            λ unmet. given .1 (chunk-checked ∙ none .1 (unmet .0, le-ltb 1 (r .party) (unmet .1))),
+          )
 
     module _ (room-bytes : areBytes room ≡ true) (chunk-bytes : areBytes chunk ≡ true) where
       -- The history goes on with its single calls.
@@ -102,7 +125,7 @@ module _ {C : Type 0} {r : Reading C} {many : ℕ} {counted : C → List Noted �
     abbrev done-by-both : List Call
     done-by-both = taken-calls r words room chunk (take-chunk t r last counts words room chunk .number)
 
-    same-refusal : let high = r .counts-high (r .counts-of counts) in chunk-refusal t new-last high chunk ≡ chunk-refusal t last high chunk
+    same-refusal : let high = r .counts-high (r .counts-of counts) in chunk-refusal t new-last (r .party) high chunk ≡ chunk-refusal t last (r .party) high chunk
     same-refusal = chunk-checked (history-more anew made-anew) counts words room chunk ∙ sym (chunk-checked (history-more history made) counts words room chunk)
 
     -- They are the same on both, so that the chunk is then among what both were given, and all this holds of the next one.

@@ -9,7 +9,7 @@ use mathlib.Core.Logic.{_↔_, _≢_, _⊎_, inl, inr}
 use native.Mathlib.Omega.{arith}
 use Rattle.rules.specs.declared.Settings.{Settings}
 use Rattle.rules.specs.Tools.{all as every}
-use Rattle.rules.specs.Table.{Memory, refuse, memory-refusal}
+use Rattle.rules.specs.Table.{Memory, refuse, party-refusal}
 use Rattle.stream_format.specs.declared.Kind.{Kind}
 use Rattle.stream_format.specs.declared.Stage.{Stage}
 use Rattle.stream_format.specs.declared.Stage.the-variants.{Header, Body, Over, Ended}
@@ -17,22 +17,23 @@ use Rattle.stream_format.specs.Kept.{ended-word, is-ended, ended-number, stage-
 use Rattle.stream_format.specs.Chunks.{Reading, chunk-refusal, Chunked, stage-number, lent-back, as-it-was, take-chunk}
 use Rattle.stream_format.proofs.Ends.{inside, end-by-stage, end-inside, ended-words, ended-by-end, end-again}
 use Rattle.stream_format.proofs.Regular.{Regular}
-use Rattle.promises.specs.Demands.{memory-conditions, NoneMet, FirstMet}
-use Rattle.promises.proofs.Conditions.{first-met, numbered, memory-first, given-exactly, none-exactly}
+use Rattle.promises.specs.Demands.{memory-conditions, party-conditions, NoneMet, FirstMet}
+use Rattle.promises.proofs.Conditions.{first-met, numbered, party-first, given-exactly, none-exactly}
 use Rattle.stream_promises.specs.Noted.{Noted, untaken, over-limit, chunk-conditions}
 use Rattle.stream_promises.proofs.Lawful.{Lawful}
 use Rattle.stream_promises.proofs.Ways.{Ends, ends-small, given-by-stage, Refused, Taken, by-way, while-on}
 
 -- ---- Why a chunk is not taken
 
-chunk-numbered : (t : Settings) (m : Memory) (many : ℕ) (counts chunk : List ℕ) → numbered (chunk-conditions t m many counts chunk) ≡ true
-unfolding numbered every chunk-conditions memory-conditions
-chunk-numbered t m many counts chunk = refl
+chunk-numbered : (t : Settings) (m : Memory) (party many : ℕ) (counts chunk : List ℕ) → numbered (chunk-conditions t m party many counts chunk) ≡ true
+unfolding numbered every chunk-conditions party-conditions memory-conditions
+chunk-numbered t m party many counts chunk = refl
 
 -- These are the numbers that it is refused for, in the order of the list.
-pub numbers-listed : (t : Settings) (m : Memory) (many : ℕ) (counts chunk : List ℕ) → map (λ c. c .number) (chunk-conditions t m many counts chunk) ≡ 19 ∷ 1 ∷ 2 ∷ []
-unfolding chunk-conditions memory-conditions
-numbers-listed t m many counts chunk = refl
+pub numbers-listed : (t : Settings) (m : Memory) (party many : ℕ) (counts chunk : List ℕ)
+    → map (λ c. c .number) (chunk-conditions t m party many counts chunk) ≡ 19 ∷ 1 ∷ 2 ∷ 15 ∷ []
+unfolding chunk-conditions party-conditions memory-conditions
+numbers-listed t m party many counts chunk = refl
 
 untaken-some : (n : ℕ) → untaken n ≡ true → n ≢ 0
 unfolding untaken
@@ -72,18 +73,18 @@ module _ {C : Type 0} {r : Reading C} {many : ℕ} {counted : C → List Noted �
 
   -- why it is not taken, 0 where it is
   abbrev refusal : ℕ
-  refusal = chunk-refusal t m (r .counts-high (r .counts-of counts)) chunk
+  refusal = chunk-refusal t m (r .party) (r .counts-high (r .counts-of counts)) chunk
 
   -- each check is its condition
-  pub chunk-checks : refusal ≡ refuse (over-limit many counts chunk) 19 (memory-refusal t m 0)
+  pub chunk-checks : refusal ≡ refuse (over-limit many counts chunk) 19 (party-refusal t m (r .party) 0)
   unfolding chunk-refusal over-limit
   chunk-checks = rw (law .high counts)
 
-  chunk-first : refusal ≡ first-met (chunk-conditions t m many counts chunk)
+  chunk-first : refusal ≡ first-met (chunk-conditions t m (r .party) many counts chunk)
   unfolding chunk-conditions first-met
-  chunk-first = chunk-checks ∙ rw (memory-first t m)
+  chunk-first = chunk-checks ∙ rw (party-first t m (r .party))
 
-  -- A chunk that is given 19, 1 or 2 leaves table, counts, words and room as they were.
+  -- A chunk that is given 19, 1, 2 or 15 leaves table, counts, words and room as they were.
   pub refused-unchanged : untaken (its .number) ≡ true → its ≡ as-it-was (its .number) m counts words room
   refused-unchanged bad = by-way law t m counts words room chunk
       (λ way. rw (way .left)) (λ way. rw (way .left)) (λ way. absurd (true≢false (sym bad ∙ way .given)))
@@ -106,18 +107,18 @@ module _ {C : Type 0} {r : Reading C} {many : ℕ} {counted : C → List Noted �
         (λ way. (λ good. absurd (true≢false (sym (way .given) ∙ good)), λ none. absurd (way .bad none)))
         (λ way. (λ good. way .good, λ none. way .given))
 
-    -- Where the stream goes on, 19, 1 or 2 is given exactly if its condition is met and none is of those before it in the list.
-    pub numbers-in-order : (n : ℕ) → untaken n ≡ true → (its .number ≡ n) ↔ FirstMet n (chunk-conditions t m many counts chunk)
+    -- Where the stream goes on, 19, 1, 2 or 15 is given exactly if its condition is met and none is of those before it in the list.
+    pub numbers-in-order : (n : ℕ) → untaken n ≡ true → (its .number ≡ n) ↔ FirstMet n (chunk-conditions t m (r .party) many counts chunk)
     numbers-in-order n bad =
         let same = given-refusal n bad in
         let some = untaken-some n bad in
-        let first = given-exactly (chunk-conditions t m many counts chunk) chunk-first n (omega arith) in
+        let first = given-exactly (chunk-conditions t m (r .party) many counts chunk) chunk-first n (omega arith) in
         (λ e. first .0 (same .0 e), λ met. same .1 (first .1 met))
 
     -- The chunk is taken exactly if no condition is met.
-    pub taken-exactly : (untaken (its .number) ≡ false) ↔ NoneMet (chunk-conditions t m many counts chunk)
+    pub taken-exactly : (untaken (its .number) ≡ false) ↔ NoneMet (chunk-conditions t m (r .party) many counts chunk)
     taken-exactly =
-        let none = none-exactly (chunk-conditions t m many counts chunk) chunk-first (chunk-numbered t m many counts chunk) in
+        let none = none-exactly (chunk-conditions t m (r .party) many counts chunk) chunk-first (chunk-numbered t m (r .party) many counts chunk) in
         (λ good. none .0 (taken-unrefused .0 good), λ unmet. taken-unrefused .1 (none .1 unmet))
 
     -- Then it is given 0, 12 or 14.

@@ -9,7 +9,7 @@ use lib.Dec.{eqb}
 use lib.ListN.{length}
 use lib.Pow.{areBytes}
 use Rattle.rules.specs.declared.Settings.{Settings}
-use Rattle.rules.specs.Table.{Memory, memory-refusal}
+use Rattle.rules.specs.Table.{Memory, party-refusal}
 use Rattle.rules.specs.Calls.{Call, all-word-sized, each, run}
 use Rattle.rules.proofs.Calls.{answers-length, run-append}
 use Rattle.rules.proofs.Refusals.{passed}
@@ -57,10 +57,11 @@ run-length : (t : Settings) (m : Memory) (calls : List Call) → length (run t m
 unfolding run
 run-length t m calls = answers-length _ _ m calls
 
--- what is not refused finds settings and sizes good
-pub unrefused-fits : (t : Settings) (m : Memory) (high : Bool) (chunk : List ℕ) → chunk-refusal t m high chunk ≡ 0 → memory-refusal t m 0 ≡ 0
+-- what is not refused finds settings, sizes and party good
+pub unrefused-fits : (t : Settings) (m : Memory) (party : ℕ) (high : Bool) (chunk : List ℕ) → chunk-refusal t m party high chunk ≡ 0
+    → party-refusal t m party 0 ≡ 0
 unfolding chunk-refusal
-unrefused-fits t m high chunk good = passed _ 18 _ good .1
+unrefused-fits t m party high chunk good = passed _ 18 _ good .1
 
 module _ {C : Type 0} {r : Reading C} {many : ℕ} {counted : C → List Noted → (answers : List ℕ) → C} (law : Lawful r many counted) (t : Settings) where
   abbrev after : Work C → (records : List Noted) → Work C
@@ -171,11 +172,11 @@ module _ {C : Type 0} {r : Reading C} {many : ℕ} {counted : C → List Noted �
     unfolding taken-calls taken-records
     calls-words room-small chunk-small = by-cases (untaken (its .number)) (λ bad. rw bad (no-calls-words r)) (λ good. rw good (bytes-words room-small chunk-small))
 
-    -- A chunk that does a record finds settings and sizes good.
-    pub records-fit : (records ≡ []) ⊎ (memory-refusal t m 0 ≡ 0)
+    -- A chunk that does a record finds settings, sizes and party good.
+    pub records-fit : (records ≡ []) ⊎ (party-refusal t m (r .party) 0 ≡ 0)
     unfolding taken-records
     records-fit = by-way law t m counts words room chunk
-        (λ way. inl (none-after-end (way .over))) (λ way. inl (rw (way .given))) (λ way. inr (unrefused-fits t m _ chunk (way .good)))
+        (λ way. inl (none-after-end (way .over))) (λ way. inl (rw (way .given))) (λ way. inr (unrefused-fits t m (r .party) _ chunk (way .good)))
 
     -- The table is what these calls leave.
     pub chunk-leaves : its .memory ≡ run t m calls .last
@@ -194,7 +195,7 @@ module _ {C : Type 0} {r : Reading C} {many : ℕ} {counted : C → List Noted �
   -- ---- The same chunk on two tables
 
   module _ (counts words room chunk : List ℕ) (m m' : Memory)
-      (same : let high = r .counts-high (r .counts-of counts) in chunk-refusal t m' high chunk ≡ chunk-refusal t m high chunk) where
+      (same : let high = r .counts-high (r .counts-of counts) in chunk-refusal t m' (r .party) high chunk ≡ chunk-refusal t m (r .party) high chunk) where
     -- what the first gives back and leaves, and what the other does
     abbrev one : Chunked
     one = take-chunk t r m counts words room chunk
@@ -204,7 +205,7 @@ module _ {C : Type 0} {r : Reading C} {many : ℕ} {counted : C → List Noted �
 
     -- why it is not taken
     abbrev refusal : ℕ
-    refusal = chunk-refusal t m (r .counts-high (r .counts-of counts)) chunk
+    refusal = chunk-refusal t m (r .party) (r .counts-high (r .counts-of counts)) chunk
 
     same-stage : bytes-taken law t m' counts words room chunk .stage ≡ bytes-taken law t m counts words room chunk .stage
     same-stage = as-noted m' counts words room chunk .stage ∙ sym (as-noted m counts words room chunk .stage)

@@ -10,7 +10,7 @@ use lib.ListN.{length}
 use borrow.Author.Tests.{eqb-true, eqb-false}
 use Rattle.rules.specs.declared.Settings.{Settings}
 use Rattle.rules.specs.Table.{in-range, sized, Memory, refuse}
-use Rattle.rules.proofs.Refusals.{memory-order}
+use Rattle.rules.proofs.Refusals.{party-order}
 use Rattle.stream_format.specs.declared.Kind.{Kind}
 use Rattle.stream_format.specs.declared.Stage.{Stage}
 use Rattle.stream_format.specs.declared.Stage.the-variants.{Header, Body, Over, Ended}
@@ -41,18 +41,19 @@ given-by-stage kind (Ended number) room its = inr its
 
 -- ---- By the number
 
--- a refusal is 19, 1 or 2
-refusal-untaken : (t : Settings) (m : Memory) (high : Bool) (chunk : List ℕ) → chunk-refusal t m high chunk ≢ 0
-    → untaken (chunk-refusal t m high chunk) ≡ true
+-- a refusal is 19, 1, 2 or 15
+refusal-untaken : (t : Settings) (m : Memory) (party : ℕ) (high : Bool) (chunk : List ℕ) → chunk-refusal t m party high chunk ≢ 0
+    → untaken (chunk-refusal t m party high chunk) ≡ true
 unfolding chunk-refusal untaken refuse
-refusal-untaken t m high chunk = rw (memory-order t m 0) (go (ltb 65536 (length chunk) || high) (in-range t) (sized t m))
+refusal-untaken t m party high chunk = rw (party-order t m party 0) (go (ltb 65536 (length chunk) || high) (in-range t) (sized t m) (ltb 1 party))
   where
-    go : (bad range sizes : Bool) → refuse bad 19 (refuse (not range) 1 (refuse (not sizes) 2 0)) ≢ 0
-        → untaken (refuse bad 19 (refuse (not range) 1 (refuse (not sizes) 2 0))) ≡ true
-    go true range sizes given = refl
-    go false false sizes given = refl
-    go false true false given = refl
-    go false true true given = absurd (given refl)
+    go : (bad range sizes unknown : Bool) → refuse bad 19 (refuse (not range) 1 (refuse (not sizes) 2 (refuse unknown 15 0))) ≢ 0
+        → untaken (refuse bad 19 (refuse (not range) 1 (refuse (not sizes) 2 (refuse unknown 15 0)))) ≡ true
+    go true range sizes unknown given = refl
+    go false false sizes unknown given = refl
+    go false true false unknown given = refl
+    go false true true true given = refl
+    go false true true false given = absurd (given refl)
 
 -- what a chunk that is taken is given is none of them
 given-taken : {number : ℕ} → (number ≡ 0) ⊎ Ends number → untaken number ≡ false
@@ -97,7 +98,7 @@ module _ {C : Type 0} {r : Reading C} {many : ℕ} {counted : C → List Noted �
 
     -- why it is not taken, 0 where it is
     abbrev refusal : ℕ
-    refusal = chunk-refusal t m (r .counts-high (r .counts-of counts)) chunk
+    refusal = chunk-refusal t m (r .party) (r .counts-high (r .counts-of counts)) chunk
 
     -- the stream has ended: the chunk is given the number that ended it
     pub record AfterEnd : Type 0 where
@@ -147,7 +148,7 @@ module _ {C : Type 0} {r : Reading C} {many : ℕ} {counted : C → List Noted �
         (λ some.
         let bad = eqb-false refusal 0 some in
         let left : its ≡ as-it-was refusal m counts words room = rw (on, some) in
-        refused (record { on = on; bad = bad; left = left; given = rw left (refusal-untaken t m _ chunk bad) })))
+        refused (record { on = on; bad = bad; left = left; given = rw left (refusal-untaken t m (r .party) _ chunk bad) })))
 
     -- One of the last two is, while the stream goes on.
     pub while-on : {A : Type 0} → is-ended words ≡ false → (Refused → A) → (Taken → A) → A

@@ -8,7 +8,7 @@ use mathlib.Core.Logic.{_⊎_, inl, inr}
 use lib.Pow.{areBytes}
 use Rattle.rules.specs.declared.Settings.{Settings}
 use Rattle.rules.specs.Tools.{input-of, fed}
-use Rattle.rules.specs.Table.{memory-refusal}
+use Rattle.rules.specs.Table.{party-refusal}
 use Rattle.rules.specs.Calls.{Call, run}
 use Rattle.stream_format.specs.Streams.{chunk-taken}
 use Rattle.stream_format.specs.Chunks.{Reading, Chunked, taken-up}
@@ -20,16 +20,16 @@ use Rattle.stream_promises.proofs.Cuts.{all-taken}
 use Rattle.stream_promises.proofs.Singles.{worked, unrefused-fits, none-noted, bytes-come-to, bytes-words}
 use Rattle.stream_promises.proofs.Ways.{by-way}
 
--- Chunks that complete a record find settings and sizes good.
+-- Chunks that complete a record find settings, sizes and party good.
 pub all-records-fit : {C : Type 0} {r : Reading C} {many : ℕ} {counted : C → List Noted → (answers : List ℕ) → C} → Lawful r many counted
     → {t : Settings} {start last : Chunked} {chunks : List (List ℕ)} → Streamed t r start chunks last
-    → (chunk-records r (start .words) (start .room) (input-of chunks) ≡ []) ⊎ (memory-refusal t (start .memory) 0 ≡ 0)
+    → (chunk-records r (start .words) (start .room) (input-of chunks) ≡ []) ⊎ (party-refusal t (start .memory) (r .party) 0 ≡ 0)
 unfolding next-chunk input-of chunk-records chunk-taken fed
 all-records-fit law NoMore = inl refl
-all-records-fit law {t} (Chunk {s} {chunk = chunk} {chunks} good rest) = by-way law t (s .memory) (s .counts) (s .words) (s .room) chunk
+all-records-fit {r = r} law {t} (Chunk {s} {chunk = chunk} {chunks} good rest) = by-way law t (s .memory) (s .counts) (s .words) (s .room) chunk
     (λ way. inl (none-noted law t (s .memory) (s .counts) (s .words) (s .room) (input-of (chunk ∷ chunks)) (way .over)))
     (λ way. absurd (true≢false (sym (way .given) ∙ good)))
-    (λ way. inr (unrefused-fits t (s .memory) _ chunk (way .good)))
+    (λ way. inr (unrefused-fits t (s .memory) (r .party) _ chunk (way .good)))
 
 module _ {C : Type 0} {r : Reading C} {many : ℕ} {counted : C → List Noted → (answers : List ℕ) → C} (law : Lawful r many counted)
     {t : Settings} {start last : Chunked} {chunks : List (List ℕ)} (streamed : Streamed t r start chunks last) where

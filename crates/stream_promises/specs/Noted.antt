@@ -2,7 +2,7 @@
 -- chunks taken one after the other.
 use Prim.Native.Nat.{ℕ}
 use mathlib.Core.Path.{_≡_}
-use mathlib.Core.Bool.{Bool, false, cond, _||_}
+use mathlib.Core.Bool.{Bool, true, false, cond, _&&_, _||_}
 use mathlib.Core.List.{List, [], _∷_, _++_}
 use lib.ListN.{length, getD}
 use lib.Dec.{ltb, eqb}
@@ -12,7 +12,8 @@ use Rattle.rules.specs.Calls.{Call}
 use Rattle.stream_format.specs.Streams.{Done, Doing, stream, chunk-taken}
 use Rattle.stream_format.specs.Kept.{stage-of, end-stream}
 use Rattle.stream_format.specs.Chunks.{Reading, Chunked, take-chunk}
-use Rattle.promises.specs.Demands.{Condition, _when_, some-below, memory-conditions}
+use Rattle.promises.specs.Parties.{is-call-of}
+use Rattle.promises.specs.Demands.{Condition, _when_, some-below, party-conditions}
 
 -- ---- The records of a chunk
 
@@ -44,9 +45,14 @@ calls-of r [] = []
 calls-of r (Read bytes ∷ records) = r .calls bytes ++ calls-of r records
 calls-of r (Over ∷ records) = calls-of r records
 
--- a chunk that is given 19, 1 or 2 is not taken
+-- each of these calls is the party's
+unfoldable pub all-by : (party : ℕ) → List Call → Bool
+all-by party [] = true
+all-by party (call ∷ calls) = is-call-of party call && all-by party calls
+
+-- a chunk that is given 19, 1, 2 or 15 is not taken
 unfoldable pub untaken : (number : ℕ) → Bool
-untaken number = eqb number 19 || (eqb number 1 || eqb number 2)
+untaken number = eqb number 19 || (eqb number 1 || (eqb number 2 || eqb number 15))
 
 -- the records that a chunk does, by the number that it is given: none where it is not taken
 unfoldable pub taken-records : {C : Type 0} → Reading C → (words room chunk : List ℕ) (number : ℕ) → List Noted
@@ -66,9 +72,9 @@ some-high many counts = some-below (λ i. ltb 4000000000 (getD counts i 0)) many
 unfoldable pub over-limit : (many : ℕ) (counts chunk : List ℕ) → Bool
 over-limit many counts chunk = ltb 65536 (length chunk) || some-high many counts
 
--- what a chunk looks at while the stream goes on: that, then settings and sizes as every call
-unfoldable pub chunk-conditions : Settings → Memory → (many : ℕ) (counts chunk : List ℕ) → List Condition
-chunk-conditions t m many counts chunk = (19 when over-limit many counts chunk) ∷ memory-conditions t m
+-- what a chunk looks at while the stream goes on: that, then settings, sizes and party as every update
+unfoldable pub chunk-conditions : Settings → Memory → (party many : ℕ) (counts chunk : List ℕ) → List Condition
+chunk-conditions t m party many counts chunk = (19 when over-limit many counts chunk) ∷ party-conditions t m party
 
 -- ---- Chunks one after the other
 
@@ -76,8 +82,8 @@ chunk-conditions t m many counts chunk = (19 when over-limit many counts chunk) 
 unfoldable pub next-chunk : {C : Type 0} → Settings → Reading C → Chunked → (chunk : List ℕ) → Chunked
 next-chunk t r s chunk = take-chunk t r (s .memory) (s .counts) (s .words) (s .room) chunk
 
--- These chunks were taken one after the other, under the same settings and the same reading, and none was given 19, 1 or 2.
--- Nothing else touched the table, the counts, the words or the room.
+-- These chunks were taken one after the other, under the same settings and the same reading, so for one party, and none was
+-- given 19, 1, 2 or 15. Nothing else touched the table, the counts, the words or the room.
 pub data Streamed {C : Type 0} (t : Settings) (r : Reading C) : Chunked → (chunks : List (List ℕ)) → Chunked → Type 0 where
   NoMore : {s : Chunked} → Streamed t r s [] s
   Chunk : {s last : Chunked} {chunk : List ℕ} {chunks : List (List ℕ)}

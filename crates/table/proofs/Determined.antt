@@ -44,7 +44,7 @@ pub lookup-determined : (κs : Lfts 2) (a : _) (r q : _) (s e : _) → lookup.Po
 lookup-determined κs a r q s e one other = one ∙ sym other
 
 pub lookup-list-determined : (κs : Lfts 4) (a : _) (r q : _) (s e : _) → lookup-list.Post κs a r s → lookup-list.Post κs a q e
-    → (r ≡ q) × (now (s .1 .1 .1 .1 .0) ≡ now (e .1 .1 .1 .1 .0))
+    → (r ≡ q) × (now (s .1 .1 .1 .1 .1 .0) ≡ now (e .1 .1 .1 .1 .1 .0))
 lookup-list-determined κs a r q s e one other =
     let same = sym one ∙ other in
     (ap (λ l. l .refusal) same, ap (λ l. l .results) same)

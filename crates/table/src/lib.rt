@@ -13,6 +13,7 @@ use rules::Answer;
 use rules::Settings;
 use rules::Vector;
 use settings::refuse_memory;
+use settings::refuse_party;
 use updates::add_checked;
 use updates::change_checked;
 use updates::withdraw_checked;
@@ -20,7 +21,7 @@ use vectors::vector_of;
 use zeros::zero_bytes;
 use zeros::zero_words;
 
-// Empties the table: writes zero to every byte and word. Gives back 0, or a refusal's number.
+// Empties the table of both parties' routes: writes zero to every byte and word. Gives back 0, or a refusal's number.
 pub fn clear(settings: Settings, counters: &mut [u8], slots: &mut [u32]) -> u32
     ensures { λ r. ⌜ clear settings (lent (now (counters .entry)) (now (slots .entry))) ≡ left r (now (counters .exit)) (now (slots .exit)) ⌝ }
 {
@@ -33,61 +34,64 @@ pub fn clear(settings: Settings, counters: &mut [u8], slots: &mut [u32]) -> u32
     0
 }
 
-// Stores a route: prefix p of a length, with its next hop. One that is stored keeps its slot and gets the
-// new hop.
+// Stores a route for a party: prefix p of a length, with its next hop. One that the party has stored keeps its
+// slot and gets the new hop.
 pub fn add(
     settings: Settings,
     counters: &mut [u8],
     slots: &mut [u32],
+    party: u32,
     p: u32,
     length: u32,
     hop: u32,
 ) -> u32
-    ensures { λ r. ⌜ add settings (lent (now (counters .entry)) (now (slots .entry))) p length hop ≡ left r (now (counters .exit)) (now (slots .exit)) ⌝ }
+    ensures { λ r. ⌜ add settings (lent (now (counters .entry)) (now (slots .entry))) party p length hop ≡ left r (now (counters .exit)) (now (slots .exit)) ⌝ }
 {
-    let refusal = refuse_add(settings, counters, slots, p, length, hop);
+    let refusal = refuse_add(settings, counters, slots, party, p, length, hop);
     if refusal != 0 {
         return refusal;
     }
-    add_checked(settings, counters, slots, p, length, hop)
+    add_checked(settings, counters, slots, party, p, length, hop)
 }
 
-// Takes a stored route out.
+// Takes a stored route of a party's out.
 pub fn withdraw(
     settings: Settings,
     counters: &mut [u8],
     slots: &mut [u32],
+    party: u32,
     p: u32,
     length: u32,
 ) -> u32
-    ensures { λ r. ⌜ withdraw settings (lent (now (counters .entry)) (now (slots .entry))) p length ≡ left r (now (counters .exit)) (now (slots .exit)) ⌝ }
+    ensures { λ r. ⌜ withdraw settings (lent (now (counters .entry)) (now (slots .entry))) party p length ≡ left r (now (counters .exit)) (now (slots .exit)) ⌝ }
 {
-    let refusal = refuse_route(settings, counters, slots, p, length);
+    let refusal = refuse_route(settings, counters, slots, party, p, length);
     if refusal != 0 {
         return refusal;
     }
-    withdraw_checked(settings, counters, slots, p, length)
+    withdraw_checked(settings, counters, slots, party, p, length)
 }
 
-// Gives a stored route a new next hop.
+// Gives a stored route of a party's a new next hop.
 pub fn change(
     settings: Settings,
     counters: &mut [u8],
     slots: &mut [u32],
+    party: u32,
     p: u32,
     length: u32,
     hop: u32,
 ) -> u32
-    ensures { λ r. ⌜ change settings (lent (now (counters .entry)) (now (slots .entry))) p length hop ≡ left r (now (counters .exit)) (now (slots .exit)) ⌝ }
+    ensures { λ r. ⌜ change settings (lent (now (counters .entry)) (now (slots .entry))) party p length hop ≡ left r (now (counters .exit)) (now (slots .exit)) ⌝ }
 {
-    let refusal = refuse_hop(settings, counters, slots, p, length, hop);
+    let refusal = refuse_hop(settings, counters, slots, party, p, length, hop);
     if refusal != 0 {
         return refusal;
     }
-    change_checked(settings, counters, slots, p, length, hop)
+    change_checked(settings, counters, slots, party, p, length, hop)
 }
 
-// Which lengths' filters claim an address: bit L - 1 for length L.
+// Which lengths' filters claim an address, whichever party's routes they hold: bit L - 1 for length L.
 pub fn match_vector(settings: Settings, counters: &[u8], slots: &[u32], address: u32) -> Vector
     ensures { λ r. ⌜ r ≡ match-vector settings (lent (now (counters .entry)) (now (slots .entry))) address ⌝ }
 {
@@ -106,35 +110,43 @@ pub fn match_vector(settings: Settings, counters: &[u8], slots: &[u32], address:
     }
 }
 
-// The next hop of the longest stored route that matches an address, with its length and the
+// The next hop of the longest route stored for a party that matches an address, with its length and the
 // buckets that were searched for it.
-pub fn lookup(settings: Settings, counters: &[u8], slots: &[u32], address: u32) -> Answer
-    ensures { λ r. ⌜ r ≡ lookup settings (lent (now (counters .entry)) (now (slots .entry))) address ⌝ }
+pub fn lookup(
+    settings: Settings,
+    counters: &[u8],
+    slots: &[u32],
+    party: u32,
+    address: u32,
+) -> Answer
+    ensures { λ r. ⌜ r ≡ lookup settings (lent (now (counters .entry)) (now (slots .entry))) party address ⌝ }
 {
-    let refusal = refuse_memory(settings, counters, slots);
+    let refusal = refuse_party(settings, counters, slots, party);
     if refusal != 0 {
         return answer_refused(refusal);
     }
     let d = settings.d;
     let claimed = vector_of(settings, &d, counters, address);
-    answer_in_words(settings, slots, address, claimed)
+    answer_in_words(settings, slots, party, address, claimed)
 }
 
-// The lookup of each address of a list, in its order: found as 1 or 0, hop, length and probes, four
+// A party's lookup of each address of a list, in its order: found as 1 or 0, hop, length and probes, four
 // results to an address.
 pub fn lookup_list(
     settings: Settings,
     counters: &[u8],
     slots: &[u32],
+    party: u32,
     addresses: &[u32],
     results: &mut [u32],
 ) -> u32
-    ensures { λ r. ⌜ lookup-list settings (lent (now (counters .entry)) (now (slots .entry))) (now (addresses .entry)) (now (results .entry)) ≡ answered r (now (results .exit)) ⌝ }
+    ensures { λ r. ⌜ lookup-list settings (lent (now (counters .entry)) (now (slots .entry))) party (now (addresses .entry)) (now (results .entry)) ≡ answered r (now (results .exit)) ⌝ }
 {
     let refused = refuse_list(
         settings,
         counters.len(),
         slots.len(),
+        party,
         addresses.len(),
         results.len(),
     );
@@ -142,6 +154,6 @@ pub fn lookup_list(
         return refused;
     }
     let d = settings.d;
-    list_in_words(settings, &d, counters, slots, addresses, results);
+    list_in_words(settings, &d, counters, slots, party, addresses, results);
     0
 }

@@ -26,12 +26,12 @@ pub record Reply : Type 0 where
 unfoldable pub updated : Outcome → Reply
 updated u = record { text = update-text (u .refusal); memory = u .memory }
 
--- the call that a line asks for replies; an unreadable line leaves the memory as it is
+-- the call that a line asks for replies, for party 0; an unreadable line leaves the memory as it is
 unfoldable pub reply : Settings → Memory → Request → Reply
-reply t m (Add p L hop) = updated (add t m p L hop)
-reply t m (Drop p L) = updated (withdraw t m p L)
-reply t m (Move p L hop) = updated (change t m p L hop)
-reply t m (Find address) = record { text = lookup-text (lookup t m address); memory = m }
+reply t m (Add p L hop) = updated (add t m 0 p L hop)
+reply t m (Drop p L) = updated (withdraw t m 0 p L)
+reply t m (Move p L hop) = updated (change t m 0 p L hop)
+reply t m (Find address) = record { text = lookup-text (lookup t m 0 address); memory = m }
 reply t m Unreadable = record { text = unreadable; memory = m }
 
 -- what is answered to a line of any bytes

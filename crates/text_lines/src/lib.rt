@@ -71,11 +71,11 @@ fn answer_into(
             length,
             hop,
         } => {
-            let refusal = table::add(settings, counters, slots, prefix, length, hop);
+            let refusal = table::add(settings, counters, slots, 0, prefix, length, hop);
             put_outcome(out, at, refusal)
         }
         Request::Drop { prefix, length } => {
-            let refusal = table::withdraw(settings, counters, slots, prefix, length);
+            let refusal = table::withdraw(settings, counters, slots, 0, prefix, length);
             put_outcome(out, at, refusal)
         }
         Request::Move {
@@ -83,11 +83,11 @@ fn answer_into(
             length,
             hop,
         } => {
-            let refusal = table::change(settings, counters, slots, prefix, length, hop);
+            let refusal = table::change(settings, counters, slots, 0, prefix, length, hop);
             put_outcome(out, at, refusal)
         }
         Request::Find { address } => {
-            let found = table::lookup(settings, counters, slots, address);
+            let found = table::lookup(settings, counters, slots, 0, address);
             put_found(out, at, found)
         }
         Request::Unreadable => put_unreadable(out, at),

@@ -59,7 +59,7 @@ fn main() {
         c: 1,
     };
     let mut counters = [0u8; 512];
-    let mut slots = [0u32; 257];
+    let mut slots = [0u32; 258];
     table::clear(settings, &mut counters, &mut slots);
     // The rooms that no chunk is refused with: 65 bytes for the line, and 33 for each of a chunk.
     let mut line = [0u8; 65];

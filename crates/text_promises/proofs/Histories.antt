@@ -5,6 +5,7 @@ use mathlib.Core.Path.{_≡_, refl, ap, ap₂, _∙_}
 use mathlib.Core.Bool.{true}
 use mathlib.Core.List.{List, [], _∷_, _++_}
 use mathlib.Core.Option.{Option, some, none}
+use lib.Dec.{lit≤}
 use borrow.Author.Tests.{lt-ltb}
 use Rattle.rules.specs.declared.Settings.{Settings}
 use Rattle.rules.specs.Table.{Memory, lookup}
@@ -15,7 +16,7 @@ use Rattle.text_requests.specs.Shapes.{request}
 use Rattle.text_requests.proofs.Words.{WordSized, request-words}
 use Rattle.text_answers.specs.Texts.{update-text, lookup-text}
 use Rattle.text_lines.specs.Lines.{updated, reply, line-reply, lines-text}
-use Rattle.promises.specs.History.{Route, stored-by, SingleCalls, History}
+use Rattle.promises.specs.History.{Route, routes-of, stored-by, SingleCalls, History}
 use Rattle.promises.specs.Demands.{longest}
 use Rattle.promises.proofs.Matches.{answer-by}
 use Rattle.promises.proofs.Lookups.{lookup-by-routes}
@@ -35,17 +36,17 @@ module _ (t : Settings) (m : Memory) where
   line-made line = go (request line) (request-words line)
     where
       go : (r : Request) → WordSized r → SingleCalls t m (calls-of r) (numbers-told (calls-of r) (reply t m r .text)) (reply t m r .memory)
-      go (Add p L hop) word = told (Call·Add p L hop) (lt-ltb p (2 ^ 32) word)
-      go (Drop p L) word = told (Withdraw p L) (lt-ltb p (2 ^ 32) word)
-      go (Move p L hop) word = told (Change p L hop) (lt-ltb p (2 ^ 32) word)
+      go (Add p L hop) word = told (Call·Add 0 p L hop) (lt-ltb p (2 ^ 32) word)
+      go (Drop p L) word = told (Withdraw 0 p L) (lt-ltb p (2 ^ 32) word)
+      go (Move p L hop) word = told (Change 0 p L hop) (lt-ltb p (2 ^ 32) word)
       go (Find address) word = made t m [] refl
       go Unreadable word = made t m [] refl
 
 module _ {t : Settings} {calls : List Call} {answers : List ℕ} {m : Memory} (history : History t calls answers m) where
   -- what a lookup answers is written so
-  find-on-paper : (address : ℕ) → address < 2 ^ 32 → lookup-text (lookup t m address) ≡ find-text t (stored-by calls answers) address (longest address (stored-by calls answers))
+  find-on-paper : (address : ℕ) → address < 2 ^ 32 → lookup-text (lookup t m 0 address) ≡ find-text t (stored-by calls answers) address (longest address (routes-of 0 (stored-by calls answers)))
   unfolding lookup-text answer-by find-text
-  find-on-paper address word = rw (lookup-by-routes (kept history) address word) (go (longest address (stored-by calls answers)))
+  find-on-paper address word = rw (lookup-by-routes (kept history) 0 (lit≤ tt) address word) (go (longest address (routes-of 0 (stored-by calls answers))))
     where
       go : (o : Option Route) → lookup-text (answer-by t (stored-by calls answers) address o) ≡ find-text t (stored-by calls answers) address o
       go (some r) = refl
@@ -57,9 +58,9 @@ module _ {t : Settings} {calls : List Call} {answers : List ℕ} {m : Memory} (h
   text-on-paper line = go (request line) (request-words line)
     where
       go : (r : Request) → WordSized r → reply t m r .text ≡ text-by t (stored-by calls answers) r
-      go (Add p L hop) word = ap update-text (numbers-given history (Call·Add p L hop) (lt-ltb p (2 ^ 32) word))
-      go (Drop p L) word = ap update-text (numbers-given history (Withdraw p L) (lt-ltb p (2 ^ 32) word))
-      go (Move p L hop) word = ap update-text (numbers-given history (Change p L hop) (lt-ltb p (2 ^ 32) word))
+      go (Add p L hop) word = ap update-text (numbers-given history (Call·Add 0 p L hop) (lt-ltb p (2 ^ 32) word))
+      go (Drop p L) word = ap update-text (numbers-given history (Withdraw 0 p L) (lt-ltb p (2 ^ 32) word))
+      go (Move p L hop) word = ap update-text (numbers-given history (Change 0 p L hop) (lt-ltb p (2 ^ 32) word))
       go (Find address) word = find-on-paper address word
       go Unreadable word = refl
 

@@ -16,10 +16,9 @@ use Rattle.rules.proofs.Worked.{ip, T}
 use Rattle.text_spelling.specs.Spelling.{spelled}
 use Rattle.text_answers.specs.Texts.{update-text, route-text, none-text, lookup-text, unreadable}
 use Rattle.text_lines.specs.Lines.{updated, reply, line-reply, lines, keep, end-line, take-byte, feed, finish, roomy, feed-chunk, finish-input}
-use Rattle.promises.specs.History.{Route, stored-by, SingleCalls, History, Ran, Stop, Then}
+use Rattle.promises.specs.History.{Route, routes-of, route, stored-by, SingleCalls, History, Ran, Stop, Then}
 use Rattle.promises.specs.Demands.{Longest, probes-down-to, number-given}
 use Rattle.promises.proofs.Showing.{sevens}
-use Rattle.promises.proofs.Paper.{route}
 use Rattle.promises.proofs.Matches.{right}
 use Rattle.promises.proofs.Histories.{one-made}
 use Rattle.promises.proofs.Premises.{U}
@@ -40,7 +39,7 @@ default = spelled "add 0.0.0.0/0 3"
 
 -- the calls that the lines ask for
 abbrev morning : List Call
-morning = Add (ip 10 0 0 0) 8 7 ∷ Add 0 0 3 ∷ []
+morning = Add 0 (ip 10 0 0 0) 8 7 ∷ Add 0 0 0 3 ∷ []
 
 -- the numbers that the lines are told
 abbrev given : Settings → Memory → List ℕ
@@ -65,7 +64,7 @@ unfolding all-computing
 at-T = record { cleared = refl; accepted = refl }
 
 -- filters of unequal size
-at-U : Worked U (record { counters = replicate 688 7; slots = replicate 257 7 })
+at-U : Worked U (record { counters = replicate 688 7; slots = replicate 258 7 })
 unfolding all-computing
 at-U = record { cleared = refl; accepted = refl }
 
@@ -90,28 +89,28 @@ module _ {t : Settings} {before : Memory} (worked : Worked t before) where
 
   longest-met : line-reply t m (spelled "find 10.2.2.3") .text ≡ route-text 7 8 (probes-down-to t then (ip 10 2 2 3) 8)
   unfolding paper-computing
-  longest-met = longest-written lived (spelled "find 10.2.2.3") (ip 10 2 2 3) refl (route (ip 10 0 0 0) 8 7) (right (ip 10 2 2 3) then)
+  longest-met = longest-written lived (spelled "find 10.2.2.3") (ip 10 2 2 3) refl (route 0 (ip 10 0 0 0) 8 7) (right (ip 10 2 2 3) (routes-of 0 then))
 
-  default-best : Longest (ip 12 0 0 1) then (route 0 0 3)
+  default-best : Longest (ip 12 0 0 1) (routes-of 0 then) (route 0 0 0 3)
   unfolding paper-computing
-  default-best = right (ip 12 0 0 1) then
+  default-best = right (ip 12 0 0 1) (routes-of 0 then)
 
   default-met : line-reply t m (spelled "find 12.0.0.1") .text ≡ route-text 3 0 (probes-down-to t then (ip 12 0 0 1) 0)
   unfolding paper-computing
-  default-met = default-written lived (spelled "find 12.0.0.1") (ip 12 0 0 1) refl (route 0 0 3) (default-best .stored) refl
+  default-met = default-written lived (spelled "find 12.0.0.1") (ip 12 0 0 1) refl (route 0 0 0 3) (default-best .stored) refl
       (λ q stands matching. omega (arith, default-best .longest q stands matching))
 
   none-met : line-reply t empty (spelled "find 12.0.0.1") .text ≡ none-text (probes-down-to t [] (ip 12 0 0 1) 0)
   unfolding paper-computing
   none-met = none-written (lines-are-history begun Stop) (spelled "find 12.0.0.1") (ip 12 0 0 1) refl (right (ip 12 0 0 1) [])
 
-  number-met : line-reply t m (spelled "drop 11.0.0.0/8") .text ≡ update-text (number-given t then (Withdraw (ip 11 0 0 0) 8))
+  number-met : line-reply t m (spelled "drop 11.0.0.0/8") .text ≡ update-text (number-given t then (Withdraw 0 (ip 11 0 0 0) 8))
   unfolding paper-computing
-  number-met = numbers-written lived (spelled "drop 11.0.0.0/8") (Withdraw (ip 11 0 0 0) 8) refl
+  number-met = numbers-written lived (spelled "drop 11.0.0.0/8") (Withdraw 0 (ip 11 0 0 0) 8) refl
 
   replacing-met : line-reply t m (spelled "add 0.0.0.0/0 5") .text ≡ spelled "ok\n"
   unfolding paper-computing
-  replacing-met = replacing-written lived (spelled "add 0.0.0.0/0 5") (route 0 0 3) (default-best .stored) 5 (lit≤ tt) refl
+  replacing-met = replacing-written lived (spelled "add 0.0.0.0/0 5") (route 0 0 0 3) (default-best .stored) 5 (lit≤ tt) refl
 
 -- ---- A caller of crates/text_lines
 
@@ -121,7 +120,7 @@ unfolding all-computing feed-chunk finish-input roomy feed fed take-byte keep fi
 streaming = 0
 
 -- the byte x is fed and the input ends: what is passed on is the answer to that one line
-x-fed : Streamed T (lent (replicate 512 0) (replicate 257 0)) (replicate 65 0) 0 ((120 ∷ []) ∷ []) unreadable
+x-fed : Streamed T (lent (replicate 512 0) (replicate 258 0)) (replicate 65 0) 0 ((120 ∷ []) ∷ []) unreadable
 unfolding streaming
 x-fed =
     Chunk {chunk = 120 ∷ []} {out = replicate 33 0} {out′ = replicate 33 0} {r = record { refused = false; count = 1; written = 0 }} (omega arith)

@@ -1,8 +1,9 @@
 -- Demands 2 and 3 of the text program, for whoever types its lines: lines of any bytes are a history, refused and unreadable ones
 -- included, and after any history what is written to the next line is what the stored routes say. They are read off the lines and the
--- texts alone (specs/Typed.antt). Settings are any; the program's own come last.
+-- texts alone (specs/Typed.antt). The lines are party 0's; the history may have calls of either party. Settings are any; the program's own
+-- come last.
 use Prim.Native.Nat.{ℕ, _^_, _≤_, _<_}
-use mathlib.Core.Path.{_≡_, refl, sym, ap, _∙_}
+use mathlib.Core.Path.{_≡_, refl, sym, ap, subst, _∙_}
 use mathlib.Core.Bool.{true}
 use mathlib.Core.List.{List, [], _∷_, _++_}
 use mathlib.Core.Option.{Option, some, none}
@@ -24,9 +25,10 @@ use Rattle.text_requests.proofs.Words.{request-words}
 use Rattle.text_answers.specs.Texts.{update-text, route-text, none-text, lookup-text, unreadable}
 use Rattle.text_lines.specs.Lines.{updated, reply, line-reply, lines, lines-text, going, stream-text}
 use Rattle.text_lines.proofs.Cuts.{begins, one-by-one}
-use Rattle.promises.specs.History.{Route, without, written, noted, on-paper, stored-by, SingleCalls, History, Ran}
+use Rattle.promises.specs.History.{Route, routes-of, route, without, written, noted, on-paper, stored-by, SingleCalls, History, Ran}
 use Rattle.promises.specs.Demands.{Stored, matches, Longest, NoMatch, Finds, number-given, paper, probes-down-to, longest}
 use Rattle.promises.proofs.Matches.{Right, right}
+use Rattle.promises.proofs.Paper.{own-stored}
 use Rattle.promises.proofs.Answers.{default-longest}
 use Rattle.promises.proofs.Histories.{kept, seat-history, more-routes-on-paper}
 use Rattle.promises.proofs.Promises.{finds-longest, says-none, numbers-given, stored-accepted, replaced-found, probes-counted, replaced-lookups}
@@ -55,15 +57,15 @@ module _ (t : Settings) (m : Memory) (line : List ℕ) where
   update-written call asks = go (request line) asks
     where
       go : (r : Request) → calls-of r ≡ call ∷ [] → reply t m r ≡ record { text = update-text (act t call m .refusal); memory = act t call m .memory }
-      go (Add p L hop) e = let same : Call·Add p L hop ≡ call = cc in rw (← same)
-      go (Drop p L) e = let same : Withdraw p L ≡ call = cc in rw (← same)
-      go (Move p L hop) e = let same : Change p L hop ≡ call = cc in rw (← same)
+      go (Add p L hop) e = let same : Call·Add 0 p L hop ≡ call = cc in rw (← same)
+      go (Drop p L) e = let same : Withdraw 0 p L ≡ call = cc in rw (← same)
+      go (Move p L hop) e = let same : Change 0 p L hop ≡ call = cc in rw (← same)
       go (Find address) e = cc
       go Unreadable e = cc
 
   -- A find is answered by what a lookup answers; it leaves memory and paper as they are.
   pub find-written : (address : ℕ) → request line ≡ Find address
-      → (line-reply t m line ≡ record { text = lookup-text (lookup t m address); memory = m }) × (calls-of (request line) ≡ [])
+      → (line-reply t m line ≡ record { text = lookup-text (lookup t m 0 address); memory = m }) × (calls-of (request line) ≡ [])
   unfolding line-reply reply calls-of
   find-written address asks = (rw asks, rw asks)
 
@@ -83,6 +85,10 @@ module _ {t : Settings} {calls : List Call} {answers : List ℕ} {m : Memory} (h
   -- the routes that are stored then
   abbrev routes : List Route
   routes = stored-by calls answers
+
+  -- those of them that are party 0's
+  abbrev its-routes : List Route
+  its-routes = routes-of 0 routes
 
   -- What is written to lines is what the paper says, line by line.
   pub paper-says : (lines : List (List ℕ)) → lines-text t m lines ≡ paper-answers t routes lines
@@ -126,79 +132,84 @@ module _ {t : Settings} {calls : List Call} {answers : List ℕ} {m : Memory} (h
     word : address < 2 ^ 32
     word = rw asks at (request-words line)
 
-    told : line-reply t m line .text ≡ lookup-text (lookup t m address)
+    told : line-reply t m line .text ≡ lookup-text (lookup t m 0 address)
     told = ap (λ r. r .text) (find-written t m line address asks .0)
 
-    counted : (L : ℕ) → lookup t m address .length ≡ L → lookup t m address .probes ≡ probes-down-to t routes address L
-    counted L e = probes-counted history address word ∙ ap (probes-down-to t routes address) e
+    counted : (L : ℕ) → lookup t m 0 address .length ≡ L → lookup t m 0 address .probes ≡ probes-down-to t routes address L
+    counted L e = probes-counted history 0 (lit≤ tt) address word ∙ ap (probes-down-to t routes address) e
 
-    -- It is answered hop and length of the longest stored route that matches, with the probe count of demand 3.
-    pub longest-written : (r : Route) → Longest address routes r
+    -- It is answered hop and length of the longest stored route of party 0's that matches, with the probe count of demand 3.
+    pub longest-written : (r : Route) → Longest address its-routes r
         → line-reply t m line .text ≡ route-text (r .hop) (r .length) (probes-down-to t routes address (r .length))
-    longest-written r best = let its = finds-longest history address word r best in told ∙ route-written _ its (counted _ (its .length))
+    longest-written r best = let its = finds-longest history 0 (lit≤ tt) address word r best in told ∙ route-written _ its (counted _ (its .length))
 
-    -- The default is answered, with length 0, if no other route matches.
-    pub default-written : (r : Route) → Stored r routes → r .length ≡ 0 → ((q : Route) → Stored q routes → matches address q ≡ true → q .length ≡ 0)
+    -- The default is answered, with length 0, if no other of its routes matches.
+    pub default-written : (r : Route) → Stored r its-routes → r .length ≡ 0 → ((q : Route) → Stored q its-routes → matches address q ≡ true → q .length ≡ 0)
         → line-reply t m line .text ≡ route-text (r .hop) 0 (probes-down-to t routes address 0)
     default-written r stands default no-other =
-        longest-written r (default-longest (kept history) address word r stands default no-other)
+        longest-written r (default-longest (kept history) 0 (lit≤ tt) address word r stands default no-other)
         ∙ ap (λ (L : ℕ). route-text (r .hop) L (probes-down-to t routes address L)) default
 
-    -- None is answered, with its probe count, if no stored route matches.
-    pub none-written : NoMatch address routes → line-reply t m line .text ≡ none-text (probes-down-to t routes address 0)
+    -- None is answered, with its probe count, if none of its routes matches.
+    pub none-written : NoMatch address its-routes → line-reply t m line .text ≡ none-text (probes-down-to t routes address 0)
     unfolding lookup-text
-    none-written no-match = let its = says-none history address word no-match in told ∙ rw (its .refusal, its .found, counted 0 (its .length))
+    none-written no-match = let its = says-none history 0 (lit≤ tt) address word no-match in told ∙ rw (its .refusal, its .found, counted 0 (its .length))
 
-    -- Three numbers are answered only for the longest stored match.
+    -- Three numbers are answered only for its longest stored match.
     pub route-exactly : (hop length probes : ℕ) → line-reply t m line .text ≡ route-text hop length probes
-        → (r : Route) × Longest address routes r × (hop ≡ r .hop) × (length ≡ r .length) × (probes ≡ probes-down-to t routes address (r .length))
-    route-exactly hop length probes h = go (longest address routes) (right address routes)
+        → (r : Route) × Longest address its-routes r × (hop ≡ r .hop) × (length ≡ r .length) × (probes ≡ probes-down-to t routes address (r .length))
+    route-exactly hop length probes h = go (longest address its-routes) (right address its-routes)
       where
-        go : (o : Option Route) → Right address routes o
-            → (r : Route) × Longest address routes r × (hop ≡ r .hop) × (length ≡ r .length) × (probes ≡ probes-down-to t routes address (r .length))
+        go : (o : Option Route) → Right address its-routes o
+            → (r : Route) × Longest address its-routes r × (hop ≡ r .hop) × (length ≡ r .length) × (probes ≡ probes-down-to t routes address (r .length))
         go none no-match = absurd (route-not-none _ _ _ _ (sym h ∙ none-written no-match))
         go (some r) best = let tells = route-tells _ _ _ _ _ _ (sym h ∙ longest-written r best) in (r, best, tells .0, tells .1, tells .2)
 
-    -- None is answered only where no stored route matches.
-    pub none-exactly : (probes : ℕ) → line-reply t m line .text ≡ none-text probes → NoMatch address routes × (probes ≡ probes-down-to t routes address 0)
-    none-exactly probes h = go (longest address routes) (right address routes)
+    -- None is answered only where none of its routes matches.
+    pub none-exactly : (probes : ℕ) → line-reply t m line .text ≡ none-text probes → NoMatch address its-routes × (probes ≡ probes-down-to t routes address 0)
+    none-exactly probes h = go (longest address its-routes) (right address its-routes)
       where
-        go : (o : Option Route) → Right address routes o → NoMatch address routes × (probes ≡ probes-down-to t routes address 0)
+        go : (o : Option Route) → Right address its-routes o → NoMatch address its-routes × (probes ≡ probes-down-to t routes address 0)
         go none no-match = (no-match, none-tells _ _ (sym h ∙ none-written no-match))
         go (some r) best = absurd (route-not-none _ _ _ _ (sym (longest-written r best) ∙ h))
 
-  -- A line that adds a stored route again, with a hop that is valid.
-  module _ (line : List ℕ) (r : Route) (stands : Stored r routes) (hop : ℕ) (high : hop ≤ 65535) (asks : request line ≡ Add (r .prefix) (r .length) hop) where
+  -- A line that adds a stored route of party 0's again, with a hop that is valid.
+  module _ (line : List ℕ) (r : Route) (stands : Stored r its-routes) (hop : ℕ) (high : hop ≤ 65535) (asks : request line ≡ Add (r .prefix) (r .length) hop) where
+    its : Stored r routes × (r .party ≡ 0)
+    its = own-stored 0 routes stands
+
     -- It is answered ok,
     pub replacing-written : line-reply t m line .text ≡ spelled "ok\n"
     unfolding calls-of update-text
-    replacing-written = ap (λ r. r .text) (update-written t m line _ (ap calls-of asks)) ∙ ap update-text (stored-accepted history r stands hop high)
+    replacing-written = ap (λ r. r .text) (update-written t m line _ (ap calls-of asks)) ∙ ap update-text (rw (its .1) at (stored-accepted history r (its .0) hop high))
 
     -- and the paper has its new hop, and the old one no more.
-    pub replacing-noted : let call = Call·Add (r .prefix) (r .length) hop in
-        stored-by (calls ++ call ∷ []) (answers ++ number-told (line-reply t m line .text) ∷ []) ≡ record { prefix = r .prefix; length = r .length; hop = hop } ∷ without (r .prefix) (r .length) routes
+    pub replacing-noted : let call = Call·Add 0 (r .prefix) (r .length) hop in
+        stored-by (calls ++ call ∷ []) (answers ++ number-told (line-reply t m line .text) ∷ []) ≡ route 0 (r .prefix) (r .length) hop ∷ without 0 (r .prefix) (r .length) routes
     unfolding numbers-told calls-of paper each noted written
     replacing-noted =
         let next = rw asks at (line-made t m line) in
-        more-routes-on-paper history next ∙ rw (accepted-exactly line (Call·Add (r .prefix) (r .length) hop) (rw asks) .0 replacing-written)
+        more-routes-on-paper history next ∙ rw (accepted-exactly line (Call·Add 0 (r .prefix) (r .length) hop) (rw asks) .0 replacing-written)
 
     -- A find of an address of which the route is the longest match is then answered the new hop, and the probes as before.
-    pub replacing-found : (next : List ℕ) (address : ℕ) → request next ≡ Find address → Longest address routes r
+    pub replacing-found : (next : List ℕ) (address : ℕ) → request next ≡ Find address → Longest address its-routes r
         → line-reply t (line-reply t m line .memory) next .text ≡ route-text hop (r .length) (probes-down-to t routes address (r .length))
     unfolding line-reply reply updated act
     replacing-found next address finds best =
         let word : address < 2 ^ 32 = rw finds at (request-words next) in
-        let its = replaced-found history r stands hop high address word best in
-        let same = replaced-lookups history r stands hop high address word in
-        rw (asks, finds) (route-written _ its (same .probes ∙ probes-counted history address word ∙ ap (probes-down-to t routes address) (sym (same .length) ∙ its .length)))
+        let best-own = subst (λ (party : ℕ). Longest address (routes-of party routes) r) (sym (its .1)) best in
+        let found = rw (its .1) at (replaced-found history r (its .0) hop high address word best-own) in
+        let same = rw (its .1) at (replaced-lookups history r (its .0) hop high 0 address word) in
+        rw (asks, finds)
+        (route-written _ found (same .probes ∙ probes-counted history 0 (lit≤ tt) address word ∙ ap (probes-down-to t routes address) (sym (same .length) ∙ found .length)))
 
 -- ---- The program's own table
 
 -- settings T, and memory of zeros, which is what a clear leaves of it; 65 bytes for the line
-pub program-writes : {chunks : List (List ℕ)} {text : List ℕ} → Streamed T (lent (replicate 512 0) (replicate 257 0)) (replicate 65 0) 0 chunks text
+pub program-writes : {chunks : List (List ℕ)} {text : List ℕ} → Streamed T (lent (replicate 512 0) (replicate 258 0)) (replicate 65 0) 0 chunks text
     → text ≡ paper-answers T [] (lines (input-of chunks))
 unfolding computing act run each all-word-sized stored-by on-paper
 program-writes streamed =
-    let zeros = lent (replicate 512 0) (replicate 257 0) in
+    let zeros = lent (replicate 512 0) (replicate 258 0) in
     let cleared : History T [] [] zeros = record { before = zeros; cleared = refl; words = refl; ran = refl } in
     paper-says-of-calls cleared (lit≤ tt) streamed

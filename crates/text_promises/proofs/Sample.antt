@@ -10,14 +10,14 @@ use Rattle.text_requests.specs.Shapes.{digit, front-digit, digits, value, begin
 use Rattle.text_answers.specs.Texts.{last-digits, decimal, refused-text, update-text, route-text, none-text}
 use Rattle.text_lines.specs.Lines.{lines-after, lines}
 use Rattle.rules.specs.Calls.{each}
-use Rattle.promises.specs.History.{about, without, with-hop, written, noted}
+use Rattle.promises.specs.History.{of-party, routes-of, about, without, with-hop, written, noted}
 use Rattle.promises.specs.Demands.{paper}
 use Rattle.promises.proofs.Showing.{showing}
 use Rattle.text_promises.specs.Paper.{calls-of, find-text, text-by, paper-answers}
 
 -- to unfold this is to unfold all that the paper computes with
 unfoldable pub paper-computing : ℕ
-unfolding showing digit front-digit digits value begins-with-number number-at no-numbers set-octet set-length set-hop item items fit-shape request last-digits decimal refused-text update-text route-text none-text lines-after lines calls-of find-text text-by paper-answers paper each noted written without with-hop about
+unfolding showing digit front-digit digits value begins-with-number number-at no-numbers set-octet set-length set-hop item items fit-shape request last-digits decimal refused-text update-text route-text none-text lines-after lines calls-of find-text text-by paper-answers paper each noted written without with-hop about of-party routes-of
 paper-computing = 0
 
 -- an input is answered so, on paper, by a table with settings T that was cleared

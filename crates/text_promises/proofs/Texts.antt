@@ -17,7 +17,7 @@ use Rattle.text_requests.specs.declared.Request.the-variants.{Add, Drop, Move, 
 use Rattle.text_requests.specs.Shapes.{digit, digits, value}
 use Rattle.text_answers.specs.Texts.{last-digits, decimal, refused-text, update-text, route-text, none-text, unreadable}
 use Rattle.text_answers.proofs.Decimals.{decimal-first}
-use Rattle.promises.specs.History.{Route}
+use Rattle.promises.specs.History.{Route, routes-of}
 use Rattle.promises.specs.Demands.{longest}
 use Rattle.text_promises.specs.Paper.{find-text, text-by}
 use Rattle.text_promises.specs.Typed.{number-told}
@@ -57,7 +57,7 @@ unfolding text-by
 only-unreadable t routes (Add p L hop) e = absurd (update-not-unreadable _ e)
 only-unreadable t routes (Drop p L) e = absurd (update-not-unreadable _ e)
 only-unreadable t routes (Move p L hop) e = absurd (update-not-unreadable _ e)
-only-unreadable t routes (Find address) e = absurd (find-not-unreadable t routes address (longest address routes) e)
+only-unreadable t routes (Find address) e = absurd (find-not-unreadable t routes address (longest address (routes-of 0 routes)) e)
 only-unreadable t routes Unreadable e = refl
 
 -- ---- The numbers in a text

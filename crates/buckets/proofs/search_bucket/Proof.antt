@@ -12,10 +12,10 @@ use Rattle.buckets.proofs.search_bucket.Statement.{statement}
 use Rattle.buckets.proofs.search_bucket.Tie as tie
 
 abbrev Inv-loop : tie.InvT-loop
-Inv-loop settings slots p length first vacancy₀ s₀ vacancy s = Met settings slots p length vacancy s
+Inv-loop settings slots party p length first vacancy₀ s₀ vacancy s = Met settings slots party p length vacancy s
 
 abbrev μ-loop : tie.MeasureT-loop
-μ-loop settings slots p length first vacancy₀ s₀ vacancy s = settings .s - s
+μ-loop settings slots party p length first vacancy₀ s₀ vacancy s = settings .s - s
 
 first-slot-requires : tie.Need-first-slot-requires Inv-loop μ-loop
 first-slot-requires c κs = c .before .pre .0
@@ -30,14 +30,14 @@ words-lent : (c : tie.Then1 Inv-loop μ-loop)
 words-lent c =
     let after-first = c .before .before .before in
     let pre = after-first .before .before .pre in
-    is-lent _ _ _ _ _ _ (after-first .first-slot .ensures) (pre .0) (pre .1) (c .if1 .taken)
+    is-lent _ _ _ _ _ _ (after-first .first-slot .ensures) (pre .0) (pre .1 .0) (c .if1 .taken)
 
 add-slot : tie.Need-add-slot Inv-loop μ-loop
 unfolding mark-word
 add-slot c = omega (arith, words-lent c)
 
 holds-at-requires : tie.Need-holds-at-requires Inv-loop μ-loop
-holds-at-requires c κs = words-lent c
+holds-at-requires c κs = (words-lent c, c .before .before .before .before .before .pre .1 .1)
 
 returns : tie.Need-returns Inv-loop μ-loop
 returns c =

@@ -10,16 +10,16 @@ use Rattle.c_words.proofs.search_bytes.Statement.{statement}
 use Rattle.c_words.proofs.search_bytes.Tie as tie
 
 abbrev Inv-loop : tie.InvT-loop
-Inv-loop settings slots address lengths found₀ left probes turn s₀ found s = Below settings (words slots) (turn .p) (turn .length) found s
+Inv-loop settings slots party address lengths found₀ left probes turn s₀ found s = Below settings (words slots) party (turn .p) (turn .length) found s
 
 abbrev μ-loop : tie.MeasureT-loop
-μ-loop settings slots address lengths found₀ left probes turn s₀ found s = settings .s - s
+μ-loop settings slots party address lengths found₀ left probes turn s₀ found s = settings .s - s
 
 abbrev Inv-lengths : tie.InvT-lengths
-Inv-lengths settings slots address lengths found₀ left₀ probes₀ found left probes = Between settings (words slots) address lengths found left probes
+Inv-lengths settings slots party address lengths found₀ left₀ probes₀ found left probes = Between settings (words slots) party address lengths found left probes
 
 abbrev μ-lengths : tie.MeasureT-lengths
-μ-lengths settings slots address lengths found₀ left₀ probes₀ found left probes = left
+μ-lengths settings slots party address lengths found₀ left₀ probes₀ found left probes = left
 
 -- the slot's words are lent
 slot-lent : (c : tie.Then1 Inv-loop μ-loop Inv-lengths μ-lengths)
@@ -28,7 +28,7 @@ slot-lent : (c : tie.Then1 Inv-loop μ-loop Inv-lengths μ-lengths)
 slot-lent c =
     let turned = c .before .before .before in
     let pre = turned .before .before .before .before .pre in
-    inside (turned .turn-of .ensures) (pre .0) (pre .1) (c .if1 .taken)
+    inside (turned .turn-of .ensures) (pre .0) (pre .1 .0) (c .if1 .taken)
 
 pub search-bytes-spec : {M : Type 1} → statement M
 unfolding mark-word
@@ -45,7 +45,7 @@ search-bytes-spec =
     (λ c. opened (c .before .before .lengths .inv .nothing))
     (λ c. omega arith)
     (λ c. omega (arith, reaches _ _ (slot-lent (c .before))))
-    (λ c κs. slot-lent (c .before))
+    (λ c κs. (slot-lent (c .before), c .before .before .before .before .before .before .before .before .pre .1 .1))
     (λ c. omega (arith, ranges _ (c .before .before .before .before .before .before .before .before .before .before .pre .0)))
     (λ c. omega arith)
     (λ c.

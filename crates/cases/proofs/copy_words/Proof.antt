@@ -7,10 +7,10 @@ use Rattle.cases.proofs.copy_words.Statement.{statement}
 use Rattle.cases.proofs.copy_words.Tie as tie
 
 abbrev Inv-loop : tie.InvT-loop
-Inv-loop words bytes₀ i₀ bytes i = length bytes ≡ length bytes₀
+Inv-loop words bytes₀ many i₀ bytes i = length bytes ≡ length bytes₀
 
 abbrev μ-loop : tie.MeasureT-loop
-μ-loop words bytes₀ i₀ bytes i = length words - i
+μ-loop words bytes₀ many i₀ bytes i = length words - i
 
 pub copy-words-spec : {M : Type 1} → statement M
 copy-words-spec =

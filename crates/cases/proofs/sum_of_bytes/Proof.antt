@@ -7,10 +7,10 @@ use Rattle.cases.proofs.sum_of_bytes.Statement.{statement}
 use Rattle.cases.proofs.sum_of_bytes.Tie as tie
 
 abbrev Inv-loop : tie.InvT-loop
-Inv-loop bytes sum₀ i₀ sum i = i ≤ length bytes
+Inv-loop bytes many sum₀ i₀ sum i = i ≤ length bytes
 
 abbrev μ-loop : tie.MeasureT-loop
-μ-loop bytes sum₀ i₀ sum i = length bytes - i
+μ-loop bytes many sum₀ i₀ sum i = length bytes - i
 
 pub sum-of-bytes-spec : {M : Type 1} → statement M
 sum-of-bytes-spec =

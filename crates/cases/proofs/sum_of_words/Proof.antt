@@ -7,10 +7,10 @@ use Rattle.cases.proofs.sum_of_words.Statement.{statement}
 use Rattle.cases.proofs.sum_of_words.Tie as tie
 
 abbrev Inv-loop : tie.InvT-loop
-Inv-loop words sum₀ i₀ sum i = i ≤ length words
+Inv-loop words many sum₀ i₀ sum i = i ≤ length words
 
 abbrev μ-loop : tie.MeasureT-loop
-μ-loop words sum₀ i₀ sum i = length words - i
+μ-loop words many sum₀ i₀ sum i = length words - i
 
 pub sum-of-words-spec : {M : Type 1} → statement M
 sum-of-words-spec =

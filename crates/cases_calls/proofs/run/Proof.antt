@@ -1,5 +1,5 @@
 -- The three lists keep their lengths.
-use Prim.Native.Nat.{_-_}
+use Prim.Native.Nat.{_-_, _^_, _<_}
 use mathlib.Core.Path.{_≡_}
 use lib.ListN.{length}
 use borrow.Author.Needs.{needs}
@@ -8,7 +8,7 @@ use Rattle.cases_calls.proofs.run.Tie as tie
 
 abbrev Inv-loop : tie.InvT-loop
 Inv-loop cases counters₀ slots₀ bytes₀ t₀ lent₀ i₀ counters slots bytes t lent i =
-    (length counters ≡ length counters₀) × (length slots ≡ length slots₀) × (length bytes ≡ length bytes₀)
+    (length cases < 2 ^ 64) × (length counters ≡ length counters₀) × (length slots ≡ length slots₀) × (length bytes ≡ length bytes₀)
 
 abbrev μ-loop : tie.MeasureT-loop
 μ-loop cases counters₀ slots₀ bytes₀ t₀ lent₀ i₀ counters slots bytes t lent i = length cases - i
@@ -19,6 +19,8 @@ run-spec =
     (tie.spec
     Inv-loop
     μ-loop
+    (λ c. search needs)
+    (λ c. search needs)
     (λ c. search needs)
     (λ c. search needs)
     (λ c. search needs)

@@ -8,12 +8,12 @@ use Rattle.gateway.proofs.gateway_change.Statement.{statement}
 use Rattle.gateway.proofs.gateway_change.Tie as tie
 
 refusal-part-requires : tie.Need-refusal-part-requires
-refusal-part-requires c κs = fits-above (c .before .before .before .before .change .ensures) (change-fits _ _ _ _ _)
+refusal-part-requires c κs = fits-above (c .before .before .before .before .change .ensures) (change-fits _ _ _ _ _ _)
 
 returns : tie.Need-returns
 returns c =
     let call = c .before .before .before .before .before in
-    crossed (change-alike _ (call .before .before .before .settings-of .ensures) _ _ _ _ ∙ call .change .ensures) (c .refusal-part .ensures)
+    crossed (change-alike _ (call .before .before .before .settings-of .ensures) _ _ _ _ _ ∙ call .change .ensures) (c .refusal-part .ensures)
 
 pub gateway-change-spec : {M : Type 1} → statement M
 gateway-change-spec =

@@ -8,13 +8,13 @@ use Rattle.gateway.proofs.gateway_import.Statement.{statement}
 use Rattle.gateway.proofs.gateway_import.Tie as tie
 
 refusal-part-requires : tie.Need-refusal-part-requires
-refusal-part-requires c κs = chunk-fits-above (c .before .before .before .before .import-chunk .ensures) (import-fits _ _ _ _ _ _ _)
+refusal-part-requires c κs = chunk-fits-above (c .before .before .before .before .import-chunk .ensures) (import-fits _ _ _ _ _ _ _ _)
 
 returns : tie.Need-returns
 returns c =
     let call = c .before .before .before .before .before in
     chunk-crossed
-    (import-alike _ (call .before .before .before .before .before .before .settings-of .ensures) _ _ _ _ _ _ ∙ call .import-chunk .ensures)
+    (import-alike _ (call .before .before .before .before .before .before .settings-of .ensures) _ _ _ _ _ _ _ ∙ call .import-chunk .ensures)
     (c .refusal-part .ensures)
 
 pub gateway-import-spec : {M : Type 1} → statement M

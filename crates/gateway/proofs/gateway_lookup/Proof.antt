@@ -8,7 +8,7 @@ use Rattle.gateway.proofs.gateway_lookup.Statement.{statement}
 use Rattle.gateway.proofs.gateway_lookup.Tie as tie
 
 number-of-answer-requires : tie.Need-number-of-answer-requires
-number-of-answer-requires c κs = rw (c .lookup .ensures) (lookup-fits _ _ _)
+number-of-answer-requires c κs = rw (c .lookup .ensures) (lookup-fits _ _ _ _)
 
 returns : tie.Need-returns
 unfolding c-lookup

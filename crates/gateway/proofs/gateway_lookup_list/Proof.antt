@@ -9,12 +9,12 @@ use Rattle.gateway.proofs.gateway_lookup_list.Statement.{statement}
 use Rattle.gateway.proofs.gateway_lookup_list.Tie as tie
 
 refusal-part-requires : tie.Need-refusal-part-requires
-refusal-part-requires c κs = list-fits-above (c .before .before .lookup-list .ensures) (list-fits _ _ _ _ _)
+refusal-part-requires c κs = list-fits-above (c .before .before .lookup-list .ensures) (list-fits _ _ _ _ _ _)
 
 returns : tie.Need-returns
 returns c =
     let call = c .before .before .before in
-    list-crossed (list-alike _ (call .before .before .settings-of .ensures) _ _ _ _ ∙ call .lookup-list .ensures) (c .refusal-part .ensures)
+    list-crossed (list-alike _ (call .before .before .settings-of .ensures) _ _ _ _ _ ∙ call .lookup-list .ensures) (c .refusal-part .ensures)
 
 pub gateway-lookup-list-spec : {M : Type 1} → statement M
 gateway-lookup-list-spec =

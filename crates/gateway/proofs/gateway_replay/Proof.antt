@@ -8,13 +8,13 @@ use Rattle.gateway.proofs.gateway_replay.Statement.{statement}
 use Rattle.gateway.proofs.gateway_replay.Tie as tie
 
 refusal-part-requires : tie.Need-refusal-part-requires
-refusal-part-requires c κs = chunk-fits-above (c .before .before .before .before .replay-chunk .ensures) (replay-fits _ _ _ _ _ _ _)
+refusal-part-requires c κs = chunk-fits-above (c .before .before .before .before .replay-chunk .ensures) (replay-fits _ _ _ _ _ _ _ _)
 
 returns : tie.Need-returns
 returns c =
     let call = c .before .before .before .before .before in
     chunk-crossed
-    (replay-alike _ (call .before .before .before .before .before .before .settings-of .ensures) _ _ _ _ _ _ ∙ call .replay-chunk .ensures)
+    (replay-alike _ (call .before .before .before .before .before .before .settings-of .ensures) _ _ _ _ _ _ _ ∙ call .replay-chunk .ensures)
     (c .refusal-part .ensures)
 
 pub gateway-replay-spec : {M : Type 1} → statement M

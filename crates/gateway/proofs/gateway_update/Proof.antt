@@ -8,12 +8,12 @@ use Rattle.gateway.proofs.gateway_update.Statement.{statement}
 use Rattle.gateway.proofs.gateway_update.Tie as tie
 
 number-of-report-requires : tie.Need-number-of-report-requires
-number-of-report-requires c κs = counts-fit-above (c .before .before .before .before .apply-message .ensures) (message-fits _ _ _ _)
+number-of-report-requires c κs = counts-fit-above (c .before .before .before .before .apply-message .ensures) (message-fits _ _ _ _ _)
 
 returns : tie.Need-returns
 returns c =
     let call = c .before .before .before .before .before in
-    message-crossed (message-alike _ (call .before .before .before .settings-of .ensures) _ _ _ ∙ call .apply-message .ensures) (c .number-of-report .ensures)
+    message-crossed (message-alike _ (call .before .before .before .settings-of .ensures) _ _ _ _ ∙ call .apply-message .ensures) (c .number-of-report .ensures)
 
 pub gateway-update-spec : {M : Type 1} → statement M
 gateway-update-spec =

@@ -8,12 +8,12 @@ use Rattle.gateway.proofs.gateway_withdraw.Statement.{statement}
 use Rattle.gateway.proofs.gateway_withdraw.Tie as tie
 
 refusal-part-requires : tie.Need-refusal-part-requires
-refusal-part-requires c κs = fits-above (c .before .before .before .before .withdraw .ensures) (withdraw-fits _ _ _ _)
+refusal-part-requires c κs = fits-above (c .before .before .before .before .withdraw .ensures) (withdraw-fits _ _ _ _ _)
 
 returns : tie.Need-returns
 returns c =
     let call = c .before .before .before .before .before in
-    crossed (withdraw-alike _ (call .before .before .before .settings-of .ensures) _ _ _ ∙ call .withdraw .ensures) (c .refusal-part .ensures)
+    crossed (withdraw-alike _ (call .before .before .before .settings-of .ensures) _ _ _ _ ∙ call .withdraw .ensures) (c .refusal-part .ensures)
 
 pub gateway-withdraw-spec : {M : Type 1} → statement M
 gateway-withdraw-spec =

@@ -23,7 +23,7 @@ counted c = (c .before .counts-of .ensures, c .counts-high .ensures ∙ ap count
 
 -- what refuses the chunk
 refusal : (c : tie.After-refuse-chunk) → let a = c .before .before .before .before .before .before .before .before .before .before .before .before .before .before .before .before .args in
-    c .refuse-chunk .result ≡ chunk-refusal (a .settings) (lent (now (a .counters)) (now (a .slots))) (counts-high (counts-of (now (a .counts)))) (now (a .chunk))
+    c .refuse-chunk .result ≡ chunk-refusal (a .settings) (lent (now (a .counters)) (now (a .slots))) (a .party) (counts-high (counts-of (now (a .counts)))) (now (a .chunk))
 refusal c = rw (counted (c .before .before .before) .1) at (c .refuse-chunk .ensures)
 
 returns : tie.Need-returns
@@ -40,8 +40,8 @@ take-chunk-requires : tie.Need-take-chunk-requires
 take-chunk-requires c κs =
     let f = c .before .before .before .before .before in
     let high = f .before .before .before in
-    let good = chunk-accepted _ _ _ _ _ (sym (refusal f) ∙ c .before .before .before .if2 .left) in
-    (good .memory .range, (record { size = good .memory .counters-fit }, (record { size = good .memory .slots-fit }, (rw (counted high .0) (counts-low _ (good .low)), (high .before .before .before .before .stage-of .ensures .1, good .short)))))
+    let good = chunk-accepted _ _ _ _ _ _ (sym (refusal f) ∙ c .before .before .before .if2 .left) in
+    (good .memory .range, (record { size = good .memory .counters-fit }, (record { size = good .memory .slots-fit }, (good .known, (rw (counted high .0) (counts-low _ (good .low)), (high .before .before .before .before .stage-of .ensures .1, good .short))))))
 
 returns-3 : tie.Need-returns-3
 unfolding import-chunk importing

@@ -16,7 +16,7 @@ use Rattle.import_calls.proofs.import_record.Tie as tie
 slice-aggregate-read-record : tie.Need-slice-aggregate-read-record
 slice-aggregate-read-record c =
     let start = c .before .before .before .before .before in
-    sym (length-take-le (start .args .size) (now (start .args .room)) (start .pre .1 .1 .1 .0))
+    sym (length-take-le (start .args .size) (now (start .args .room)) (start .pre .1 .1 .1 .1 .0))
 
 -- what was read of the record
 read : (c : tie.After-read-record) {answer : RecordRead} → c .read-record .result ≡ answer → let a = c .before .before .before .before .before .before .args in
@@ -33,16 +33,16 @@ add-announced-requires c κs =
     let k = c .before .before in
     let pre = k .before .before .before .before .before .before .before .before .before .pre in
     let told = record-told _ _ (route k) in
-    (checked told (pre .0) (pre .1 .0) (pre .1 .1 .0), told .low)
+    (checked told (pre .0) (pre .1 .0) (pre .1 .1 .0) (pre .1 .1 .1 .0), told .low)
 
 returns : tie.Need-returns
-returns c = route-done _ _ _ _ _ _ (route (c .before .before .before .before .before .before .before .before)) (c .before .before .before .before .before .add-announced .ensures) (c .count-route .ensures)
+returns c = route-done _ _ _ _ _ _ _ (route (c .before .before .before .before .before .before .before .before)) (c .before .before .before .before .before .add-announced .ensures) (c .count-route .ensures)
 
 returns-2 : tie.Need-returns-2
-returns-2 c = hopless-done _ _ _ _ _ _ (read (c .before .before .before) (c .before .enum-told .given .1)) (c .count-hopless .ensures)
+returns-2 c = hopless-done _ _ _ _ _ _ _ (read (c .before .before .before) (c .before .enum-told .given .1)) (c .count-hopless .ensures)
 
 returns-3 : tie.Need-returns-3
-returns-3 c = fault-done _ _ _ _ _ _ (read (c .before .before) (c .enum-told2 .given .1))
+returns-3 c = fault-done _ _ _ _ _ _ _ (read (c .before .before) (c .enum-told2 .given .1))
 
 pub import-record-spec : {M : Type 1} → statement M
 import-record-spec =

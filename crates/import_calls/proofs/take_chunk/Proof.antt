@@ -17,21 +17,21 @@ use Rattle.import_calls.proofs.take_chunk.Statement.{statement}
 use Rattle.import_calls.proofs.take_chunk.Tie as tie
 
 abbrev Inv-loop : tie.InvT-loop
-Inv-loop settings counters₀ slots₀ hops room₀ chunk stage₀ counts₀ at₀ counters slots room stage counts at =
-    Going settings (importing hops) Low chunk (chunk-taken (importing hops .kind) (doing settings (importing hops)) (stream stage₀ room₀ (work counts₀ counters₀ slots₀)) chunk) stage room counts counters slots at × (length counters ≡ length counters₀) × (length slots ≡ length slots₀)
+Inv-loop settings counters₀ slots₀ party hops room₀ chunk stage₀ counts₀ at₀ counters slots room stage counts at =
+    Going settings (importing party hops) Low chunk (chunk-taken (importing party hops .kind) (doing settings (importing party hops)) (stream stage₀ room₀ (work counts₀ counters₀ slots₀)) chunk) stage room counts counters slots at × (length counters ≡ length counters₀) × (length slots ≡ length slots₀)
 
 abbrev μ-loop : tie.MeasureT-loop
-μ-loop settings counters₀ slots₀ hops room₀ chunk stage₀ counts₀ at₀ counters slots room stage counts at = length chunk - at
+μ-loop settings counters₀ slots₀ party hops room₀ chunk stage₀ counts₀ at₀ counters slots room stage counts at = length chunk - at
 
 loop-holds : tie.Need-loop-holds Inv-loop μ-loop
-loop-holds c = let pre = c .before .before .before .before .pre in (goes (counts-grow _ _) (pre .1 .1 .1 .1 .0) (pre .1 .1 .1 .0), refl, refl)
+loop-holds c = let pre = c .before .before .before .before .pre in (goes (counts-grow _ _ _) (pre .1 .1 .1 .1 .1 .0) (pre .1 .1 .1 .1 .0), refl, refl)
 
 next-record-requires : tie.Need-next-record-requires Inv-loop μ-loop
 next-record-requires c κs = let going = c .before .before .loop .inv .0 in (going .sound, going .inside)
 
 -- the bytes are taken up to the next complete record
 gone : (c : tie.After-next-record Inv-loop μ-loop) → let loop = c .before .before .before .loop in let a = c .before .before .before .before .before .before .before .before .args in
-    GoesFrom (importing (now (a .hops)) .kind) (loop .stage) (loop .room) (now (a .chunk)) (loop .at) (c .next-record .result) (c .next-record .last .1 .1 .0)
+    GoesFrom (importing (a .party) (now (a .hops)) .kind) (loop .stage) (loop .room) (now (a .chunk)) (loop .at) (c .next-record .result) (c .next-record .last .1 .1 .0)
 unfolding importing
 gone c = rw (c .before .before .dump-kind .ensures) at (c .next-record .ensures)
 
@@ -46,7 +46,7 @@ import-record-requires c κs =
     let n = c .before .before .before .before .before .before .before in
     let loop = n .before .before .before .loop in
     let pre = n .before .before .before .before .before .before .before .before .pre in
-    (pre .0, (record { size = loop .inv .1 ∙ pre .1 .0 .size }, (record { size = loop .inv .2 ∙ pre .1 .1 .0 .size }, (rw (c .import-record-arg4 .given .0) (gone n .in-room (c .before .before .before .before .before .event .given .1)), low-yet (loop .inv .0) (pre .1 .1 .1 .1 .1)))))
+    (pre .0, (record { size = loop .inv .1 ∙ pre .1 .0 .size }, (record { size = loop .inv .2 ∙ pre .1 .1 .0 .size }, (pre .1 .1 .1 .0, (rw (c .import-record-arg4 .given .0) (gone n .in-room (c .before .before .before .before .before .event .given .1)), low-yet (loop .inv .0) (pre .1 .1 .1 .1 .1 .1))))))
 
 loop-less : tie.Need-loop-less Inv-loop μ-loop
 unfolding completes

@@ -3,20 +3,23 @@ use native.Mathlib.Omega.{arith}
 use denote.Ref.{now}
 use borrow.Author.Needs.{needs}
 use Rattle.rules.proofs.Vectors.{ones-set-bits}
-use Rattle.lookup_answers.proofs.Lookups.{Searched, mark-lent, mark-low, route-answers, default-answers}
+use Rattle.lookup_answers.proofs.Lookups.{Searched, mark-lent, mark-owned, route-answers, default-answers}
 use Rattle.lookups.proofs.answer_in_words.Statement.{statement}
 use Rattle.lookups.proofs.answer_in_words.Tie as tie
 
 -- the place is that of the rules
 searched : (c : tie.After-search-buckets) → let a = c .before .before .args in
-    Searched (a .settings) (now (a .slots)) (a .address) (a .claimed) (c .search-buckets .result)
-searched c = let pre = c .before .before .pre in record { range = pre .0; sized = pre .1; found = c .search-buckets .ensures }
+    Searched (a .settings) (now (a .slots)) (a .party) (a .address) (a .claimed) (c .search-buckets .result)
+searched c = let pre = c .before .before .pre in record { range = pre .0; sized = pre .1 .0; found = c .search-buckets .ensures }
 
 mark-at-requires : tie.Need-mark-at-requires
 mark-at-requires c κs = mark-lent (searched (c .before .before .before)) (c .before .place .given .1)
 
 answer-route-requires : tie.Need-answer-route-requires
-answer-route-requires c κs = mark-low (searched (c .before .before .before .before)) (c .before .before .place .given .1) (c .mark-at .ensures)
+answer-route-requires c κs =
+    let at = c .before .before in
+    let s = at .before .before in
+    (s .before .before .pre .1 .1, mark-owned (searched s) (at .place .given .1) (c .mark-at .ensures))
 
 returns : tie.Need-returns
 returns c =

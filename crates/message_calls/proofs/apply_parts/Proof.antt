@@ -14,18 +14,18 @@ use Rattle.message_calls.proofs.apply_parts.Statement.{statement}
 use Rattle.message_calls.proofs.apply_parts.Tie as tie
 
 abbrev Inv-loop : tie.InvT-loop
-Inv-loop settings counters₀ slots₀ message announced hop task₀ rest₀ counts₀ counters slots task rest counts =
-    Going settings message rest₀ announced hop (lent counters₀ slots₀) task rest counts (lent counters slots) × (length counters ≡ length counters₀) × (length slots ≡ length slots₀)
+Inv-loop settings counters₀ slots₀ party message announced hop task₀ rest₀ counts₀ counters slots task rest counts =
+    Going settings party message rest₀ announced hop (lent counters₀ slots₀) task rest counts (lent counters slots) × (length counters ≡ length counters₀) × (length slots ≡ length slots₀)
 
 abbrev μ-loop : tie.MeasureT-loop
-μ-loop settings counters₀ slots₀ message announced hop task₀ rest₀ counts₀ counters slots task rest counts = length message - rest .at
+μ-loop settings counters₀ slots₀ party message announced hop task₀ rest₀ counts₀ counters slots task rest counts = length message - rest .at
 
 loop-holds : tie.Need-loop-holds Inv-loop μ-loop
-loop-holds c = (rw (c .none-counted .ensures) (goes (c .before .before .before .before .pre .1 .1 .1 .0)), refl, refl)
+loop-holds c = (rw (c .none-counted .ensures) (goes (c .before .before .before .before .pre .1 .1 .1 .1 .0)), refl, refl)
 
 -- the two parts lie in the message
 apart : (c : tie.At-loop Inv-loop μ-loop) → let a = c .before .before .before .before .before .args in Apart (now (a .message)) (a .withdrawn) (a .announced)
-apart c = c .before .before .before .before .before .pre .1 .1 .1 .0
+apart c = c .before .before .before .before .before .pre .1 .1 .1 .1 .0
 
 -- the prefix that was read
 moved : (c : tie.After-known-told Inv-loop μ-loop) → let q = c .before .prefix .given .0 in
@@ -39,7 +39,7 @@ apply-task-requires c κs =
     let k = c .before .before in
     let loop = k .before .before .before .before .loop in
     let pre = k .before .before .before .before .before .before .before .before .before .pre in
-    (checked (moved k) (pre .0) (loop .inv .1 ∙ pre .1 .0 .size) (loop .inv .2 ∙ pre .1 .1 .0 .size), loop .inv .0 .hop-good)
+    (checked (moved k) (pre .0) (loop .inv .1 ∙ pre .1 .0 .size) (loop .inv .2 ∙ pre .1 .1 .0 .size) (pre .1 .1 .1 .0), loop .inv .0 .hop-good)
 
 count-requires : tie.Need-count-requires Inv-loop μ-loop
 count-requires c κs = let k = c .before .before .before .before .before .before .before in few-yet (apart (k .before .before .before .before)) (k .before .before .before .before .loop .inv .0) (moved k)
@@ -70,7 +70,7 @@ loop-again-2 : tie.Need-loop-again-2 Inv-loop μ-loop
 loop-again-2 c =
     let k = c .before .before in
     let at = k .before .before .before in
-    (turns (apart at) (at .loop .inv .0) (ended k) (c .enum-told3 .given .1) (at .before .before .before .before .before .pre .1 .1 .1 .1), at .loop .inv .1, at .loop .inv .2)
+    (turns (apart at) (at .loop .inv .0) (ended k) (c .enum-told3 .given .1) (at .before .before .before .before .before .pre .1 .1 .1 .1 .1), at .loop .inv .1, at .loop .inv .2)
 
 returns-2 : tie.Need-returns-2 Inv-loop μ-loop
 unfolding prefix-number

@@ -31,12 +31,12 @@ due c is =
     sym (rw (good .announced-starts, ← good .hop) at (c .hop-due .ensures)) ∙ is
 
 returns : tie.Need-returns
-returns c = faulty _ _ _ _ _ (sym (c .before .before .read-message .ensures) ∙ c .enum-told .given .1)
+returns c = faulty _ _ _ _ _ _ (sym (c .before .before .read-message .ensures) ∙ c .enum-told .given .1)
 
 returns-2 : tie.Need-returns-2
 returns-2 c =
     let found = c .before .before in
-    hopless _ _ _ _ _ (read (found .before)) (due found (c .enum-told2 .given .1))
+    hopless _ _ _ _ _ _ (read (found .before)) (due found (c .enum-told2 .given .1))
 
 -- the hop that was found
 found : (c : tie.After-apply-parts-arg2) → let a = c .before .before .before .before .before .before .before .before .before .before .before .before .before .before .args in
@@ -48,14 +48,14 @@ apply-parts-requires c κs =
     let k = c .before .before .before .before .before .before in
     let good = told k in
     let pre = k .before .before .before .before .before .before .before .before .pre in
-    (pre .0, (pre .1 .0, (pre .1 .1, (rw (good .withdrawn-ends, good .announced-starts) (parts-apart _ (good .good)), due-told _ _ _ (found c) .1))))
+    (pre .0, (pre .1 .0, (pre .1 .1 .0, (pre .1 .1 .1, (rw (good .withdrawn-ends, good .announced-starts) (parts-apart _ (good .good)), due-told _ _ _ (found c) .1)))))
 
 returns-3 : tie.Need-returns-3
 returns-3 c =
     let last = c .before .before .before .before in
     let k = last .before .before .before .before .before .before .before in
     let good = told k in
-    both-done _ _ _ _ _ (read k) (found (last .before)) (rw (good .withdrawn-ends, good .announced-starts) at (last .apply-parts .ensures))
+    both-done _ _ _ _ _ _ (read k) (found (last .before)) (rw (good .withdrawn-ends, good .announced-starts) at (last .apply-parts .ensures))
 
 pub apply-update-spec : {M : Type 1} → statement M
 apply-update-spec =

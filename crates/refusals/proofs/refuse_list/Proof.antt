@@ -1,16 +1,16 @@
--- The checks of the memory are passed on by `memory-passing`; then the sizes of the two lists.
+-- The checks of the memory and the party are passed on by `party-passing`; then the sizes of the two lists.
 use mathlib.Core.Path.{_∙_, sym}
 use native.Mathlib.Omega.{arith}
 use borrow.Author.Needs.{needs}
 use Rattle.rules.specs.Table.{refuse, list-refusal}
 use Rattle.rules.proofs.Lists.{fourfold-so, fourfold-not}
-use Rattle.rules.proofs.Refusals.{memory-passing, stopped, let-by}
+use Rattle.rules.proofs.Refusals.{party-passing, stopped, let-by}
 use Rattle.refusals.proofs.refuse_list.Statement.{statement}
 use Rattle.refusals.proofs.refuse_list.Tie as tie
 
 returns : tie.Need-returns
 unfolding list-refusal
-returns c m counters slots = stopped (memory-passing _ m) (c .before .refuse-sizes .ensures m counters slots) (c .if1 .taken) _
+returns c m counters slots = stopped (party-passing _ m _) (c .before .refuse-party-sizes .ensures m counters slots) (c .if1 .taken) _
 
 returns-2 : tie.Need-returns-2
 unfolding list-refusal refuse
@@ -18,7 +18,7 @@ returns-2 c m counters slots =
     let d = c .before in
     let a = d .before .before .args in
     sym
-    (let-by (memory-passing _ m) (d .before .refuse-sizes .ensures m counters slots) (d .if1 .left) _
+    (let-by (party-passing _ m _) (d .before .refuse-party-sizes .ensures m counters slots) (d .if1 .left) _
     ∙ simp (fourfold-not (a .addresses) (a .results) (λ e. c .if2 .taken (omega arith))))
 
 returns-3 : tie.Need-returns-3
@@ -27,7 +27,7 @@ returns-3 c m counters slots =
     let d = c .before .before in
     let a = d .before .before .args in
     sym
-    (let-by (memory-passing _ m) (d .before .refuse-sizes .ensures m counters slots) (d .if1 .left) _
+    (let-by (party-passing _ m _) (d .before .refuse-party-sizes .ensures m counters slots) (d .if1 .left) _
     ∙ simp (fourfold-not (a .addresses) (a .results) (λ e. c .if3 .taken (omega arith))))
 
 returns-4 : tie.Need-returns-4
@@ -36,7 +36,7 @@ returns-4 c m counters slots =
     let d = c .before .before in
     let a = d .before .before .args in
     sym
-    (let-by (memory-passing _ m) (d .before .refuse-sizes .ensures m counters slots) (d .if1 .left) _
+    (let-by (party-passing _ m _) (d .before .refuse-party-sizes .ensures m counters slots) (d .if1 .left) _
     ∙ simp (fourfold-so (a .addresses) (a .results) (omega arith)))
 
 pub refuse-list-spec : {M : Type 1} → statement M

@@ -23,7 +23,7 @@ tallied c = (c .before .tally-of .ensures, c .tally-high .ensures ∙ ap tally-h
 
 -- what refuses the chunk
 refusal : (c : tie.After-refuse-chunk) → let a = c .before .before .before .before .before .before .before .before .before .before .before .before .before .before .before .before .args in
-    c .refuse-chunk .result ≡ chunk-refusal (a .settings) (lent (now (a .counters)) (now (a .slots))) (tally-high (tally-of (now (a .tally)))) (now (a .chunk))
+    c .refuse-chunk .result ≡ chunk-refusal (a .settings) (lent (now (a .counters)) (now (a .slots))) (a .party) (tally-high (tally-of (now (a .tally)))) (now (a .chunk))
 refusal c = rw (tallied (c .before .before .before) .1) at (c .refuse-chunk .ensures)
 
 returns : tie.Need-returns
@@ -40,8 +40,8 @@ take-chunk-requires : tie.Need-take-chunk-requires
 take-chunk-requires c κs =
     let f = c .before .before .before .before .before in
     let high = f .before .before .before in
-    let good = chunk-accepted _ _ _ _ _ (sym (refusal f) ∙ c .before .before .before .if2 .left) in
-    (good .memory .range, (record { size = good .memory .counters-fit }, (record { size = good .memory .slots-fit }, (rw (tallied high .0) (tally-of-low _ (good .low)), (high .before .before .before .before .stage-of .ensures .1, good .short)))))
+    let good = chunk-accepted _ _ _ _ _ _ (sym (refusal f) ∙ c .before .before .before .if2 .left) in
+    (good .memory .range, (record { size = good .memory .counters-fit }, (record { size = good .memory .slots-fit }, (good .known, (rw (tallied high .0) (tally-of-low _ (good .low)), (high .before .before .before .before .stage-of .ensures .1, good .short))))))
 
 returns-3 : tie.Need-returns-3
 unfolding replay-chunk replaying

@@ -18,7 +18,7 @@ use Rattle.replay_calls.proofs.replay_record.Tie as tie
 slice-aggregate-bytes : tie.Need-slice-aggregate-bytes
 slice-aggregate-bytes c =
     let start = c .before .before .before .before .before in
-    sym (length-take-le (start .args .size) (now (start .args .room)) (start .pre .1 .1 .1))
+    sym (length-take-le (start .args .size) (now (start .args .room)) (start .pre .1 .1 .1 .1))
 
 -- what the record holds
 holds : (c : tie.After-read-record) {answer : Held} → c .read-record .result ≡ answer → let a = c .before .before .before .before .before .before .args in
@@ -36,35 +36,41 @@ sub-apply-update c = update (c .before .before) .inside
 part-apply-update-start : tie.Need-part-apply-update-start
 part-apply-update-start c = update (c .before .before) .inside
 
+apply-update-requires : tie.Need-apply-update-requires
+apply-update-requires c κs =
+    let pre = c .before .before .before .before .before .before .before .before .before .before .before .before .pre in
+    (pre .0, (pre .1 .0, (pre .1 .1 .0, pre .1 .1 .1 .0)))
+
 -- what was answered of it
 done : (c : tie.After-apply-update) {answer : Applied} → c .apply-update .result ≡ answer
     → let a = c .before .before .before .before .before .before .before .before .before .before .before .before .before .args in
-    update-done (a .settings) (lent (now (a .counters)) (now (a .slots))) (message-of (take (a .size) (now (a .room)))) (now (a .hops)) ≡ applied-to answer (c .apply-update .last .1 .0) (c .apply-update .last .1 .1 .0)
+    update-done (a .settings) (lent (now (a .counters)) (now (a .slots))) (a .party) (message-of (take (a .size) (now (a .room)))) (now (a .hops)) ≡ applied-to answer (c .apply-update .last .1 .0) (c .apply-update .last .1 .1 .0)
 done c is = rw (is, its-message _ (update (c .before .before .before .before))) at (c .apply-update .ensures)
 
 returns : tie.Need-returns
 returns c =
     let a = c .before .before .before .before .before .before .before in
     let pre = a .before .before .before .before .before .before .before .before .before .before .before .before .before .pre in
-    update-applied _ _ _ _ _ (update (a .before .before .before .before))
+    update-applied _ _ _ _ _ _ (update (a .before .before .before .before))
     (fits _ _ _ (record { range = pre .0; counters-fit = pre .1 .0 .size; slots-fit = pre .1 .1 .0 .size }) 0)
+    (pre .1 .1 .1 .0)
     (done a (c .before .counts .given .1))
 
 returns-2 : tie.Need-returns-2
 returns-2 c =
     let a = c .before .before .before .before .before .before .before in
-    update-hopless _ _ _ _ _ (update (a .before .before .before .before)) (done a (c .before .enum-told .given .1)) (c .only-seen .ensures)
+    update-hopless _ _ _ _ _ _ (update (a .before .before .before .before)) (done a (c .before .enum-told .given .1)) (c .only-seen .ensures)
 
 returns-3 : tie.Need-returns-3
 returns-3 c =
     let a = c .before .before .before .before .before .before in
-    update-fault _ _ _ _ _ (update (a .before .before .before .before)) (done a (c .enum-told2 .given .1))
+    update-fault _ _ _ _ _ _ (update (a .before .before .before .before)) (done a (c .enum-told2 .given .1))
 
 returns-4 : tie.Need-returns-4
-returns-4 c = other-done _ _ _ _ _ (holds (c .before .before .before) (c .before .enum-told3 .given .1)) (c .only-seen2 .ensures) refl
+returns-4 c = other-done _ _ _ _ _ _ (holds (c .before .before .before) (c .before .enum-told3 .given .1)) (c .only-seen2 .ensures) refl
 
 returns-5 : tie.Need-returns-5
-returns-5 c = short-done _ _ _ _ _ (holds (c .before .before) (c .enum-told4 .given .1)) refl
+returns-5 c = short-done _ _ _ _ _ _ (holds (c .before .before) (c .enum-told4 .given .1)) refl
 
 pub replay-record-spec : {M : Type 1} → statement M
 replay-record-spec =
@@ -76,7 +82,7 @@ replay-record-spec =
     sub-apply-update
     part-apply-update-start
     (λ c. search needs)
-    (λ c κs. search needs)
+    apply-update-requires
     (λ c. search needs)
     (λ c. search needs)
     (λ c κs. search needs)

@@ -19,21 +19,21 @@ use Rattle.replay_calls.proofs.take_chunk.Statement.{statement}
 use Rattle.replay_calls.proofs.take_chunk.Tie as tie
 
 abbrev Inv-loop : tie.InvT-loop
-Inv-loop settings counters₀ slots₀ hops room₀ chunk stage₀ tally₀ at₀ counters slots room stage tally at =
-    Going settings (replaying hops) LowAfter chunk (chunk-taken (replaying hops .kind) (doing settings (replaying hops)) (stream stage₀ room₀ (work tally₀ counters₀ slots₀)) chunk) stage room tally counters slots at × (length counters ≡ length counters₀) × (length slots ≡ length slots₀)
+Inv-loop settings counters₀ slots₀ party hops room₀ chunk stage₀ tally₀ at₀ counters slots room stage tally at =
+    Going settings (replaying party hops) LowAfter chunk (chunk-taken (replaying party hops .kind) (doing settings (replaying party hops)) (stream stage₀ room₀ (work tally₀ counters₀ slots₀)) chunk) stage room tally counters slots at × (length counters ≡ length counters₀) × (length slots ≡ length slots₀)
 
 abbrev μ-loop : tie.MeasureT-loop
-μ-loop settings counters₀ slots₀ hops room₀ chunk stage₀ tally₀ at₀ counters slots room stage tally at = length chunk - at
+μ-loop settings counters₀ slots₀ party hops room₀ chunk stage₀ tally₀ at₀ counters slots room stage tally at = length chunk - at
 
 loop-holds : tie.Need-loop-holds Inv-loop μ-loop
-loop-holds c = let pre = c .before .before .before .before .pre in (goes (grows _ _) (pre .1 .1 .1 .1 .0) (record { low = pre .1 .1 .1 .0 }), refl, refl)
+loop-holds c = let pre = c .before .before .before .before .pre in (goes (grows _ _ _) (pre .1 .1 .1 .1 .1 .0) (record { low = pre .1 .1 .1 .1 .0 }), refl, refl)
 
 next-record-requires : tie.Need-next-record-requires Inv-loop μ-loop
 next-record-requires c κs = let going = c .before .before .loop .inv .0 in (going .sound, going .inside)
 
 -- the bytes are taken up to the next complete record
 gone : (c : tie.After-next-record Inv-loop μ-loop) → let loop = c .before .before .before .loop in let a = c .before .before .before .before .before .before .before .before .args in
-    GoesFrom (replaying (now (a .hops)) .kind) (loop .stage) (loop .room) (now (a .chunk)) (loop .at) (c .next-record .result) (c .next-record .last .1 .1 .0)
+    GoesFrom (replaying (a .party) (now (a .hops)) .kind) (loop .stage) (loop .room) (now (a .chunk)) (loop .at) (c .next-record .result) (c .next-record .last .1 .1 .0)
 unfolding replaying
 gone c = rw (c .before .before .day-kind .ensures) at (c .next-record .ensures)
 
@@ -48,13 +48,13 @@ replay-record-requires c κs =
     let n = c .before .before .before .before .before .before .before in
     let loop = n .before .before .before .loop in
     let pre = n .before .before .before .before .before .before .before .before .pre in
-    (pre .0, (record { size = loop .inv .1 ∙ pre .1 .0 .size }, (record { size = loop .inv .2 ∙ pre .1 .1 .0 .size }, rw (c .replay-record-arg4 .given .0) (gone n .in-room (c .before .before .before .before .before .event .given .1)))))
+    (pre .0, (record { size = loop .inv .1 ∙ pre .1 .0 .size }, (record { size = loop .inv .2 ∙ pre .1 .1 .0 .size }, (pre .1 .1 .1 .0, rw (c .replay-record-arg4 .given .0) (gone n .in-room (c .before .before .before .before .before .event .given .1))))))
 
 -- the tally has room for one record more
 room : (c : tie.After-next-record Inv-loop μ-loop) → Low (c .before .before .before .loop .tally) 268435456
 room c =
     let loop = c .before .before .before in
-    low-yet (loop .loop .inv .0) (loop .before .before .before .before .before .pre .1 .1 .1 .1 .1) .low
+    low-yet (loop .loop .inv .0) (loop .before .before .before .before .before .pre .1 .1 .1 .1 .1 .1) .low
 
 noted-requires : tie.Need-noted-requires Inv-loop μ-loop
 noted-requires c κs =

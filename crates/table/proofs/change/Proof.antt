@@ -8,12 +8,12 @@ use Rattle.table.proofs.change.Statement.{statement}
 use Rattle.table.proofs.change.Tie as tie
 
 returns : tie.Need-returns
-returns c = change-refused _ _ _ _ _ (c .if1 .taken) _ (c .before .refuse-hop .ensures)
+returns c = change-refused _ _ _ _ _ _ (c .if1 .taken) _ (c .before .refuse-hop .ensures)
 
 change-checked-requires : tie.Need-change-checked-requires
 change-checked-requires c κs =
     let checks = c .before .before in
-    let f = hop-passed _ _ _ _ _ _ 0 (sym (checks .before .refuse-hop .ensures) ∙ checks .if1 .left) .0 in
+    let f = hop-passed _ _ _ _ _ _ _ 0 (sym (checks .before .refuse-hop .ensures) ∙ checks .if1 .left) .0 in
     (checked (f .route), f .small)
 
 pub change-spec : {M : Type 1} → statement M

@@ -2,27 +2,27 @@
 use mathlib.Core.Path.{_∙_, refl, sym}
 use denote.Ref.{now}
 use borrow.Author.Needs.{needs}
-use Rattle.rules.proofs.Refusals.{Fitted, memory-passed}
+use Rattle.rules.proofs.Refusals.{PartyFitted, party-passed}
 use Rattle.rules.proofs.Answers.{by-vector}
 use Rattle.lookup_answers.proofs.Lookups.{stopped}
 use Rattle.table.proofs.lookup.Statement.{statement}
 use Rattle.table.proofs.lookup.Tie as tie
 
 returns : tie.Need-returns
-returns c = stopped _ _ _ _ (c .before .before .refuse-memory .ensures) (c .before .if1 .taken) (c .answer-refused .ensures)
+returns c = stopped _ _ _ _ _ (c .before .before .refuse-party .ensures) (c .before .if1 .taken) (c .answer-refused .ensures)
 
--- past the checks, the memory fits
-fit : (c : tie.Else1) → let a = c .before .before .before .before .args in Fitted (a .settings) (now (a .counters)) (now (a .slots))
-fit c = memory-passed _ _ _ 0 (sym (c .before .refuse-memory .ensures) ∙ c .if1 .left) .0
+-- past the checks, the memory and the party fit
+fit : (c : tie.Else1) → let a = c .before .before .before .before .args in PartyFitted (a .settings) (now (a .counters)) (now (a .slots)) (a .party)
+fit c = party-passed _ _ _ _ 0 (sym (c .before .refuse-party .ensures) ∙ c .if1 .left) .0
 
 vector-of-requires : tie.Need-vector-of-requires
-vector-of-requires c κs = let past = fit (c .before .before) in (past .range, (refl, record { size = past .counters-fit }))
+vector-of-requires c κs = let past = fit (c .before .before) .memory in (past .range, (refl, record { size = past .counters-fit }))
 
 answer-in-words-requires : tie.Need-answer-in-words-requires
-answer-in-words-requires c κs = let past = fit (c .before .before .before) in (past .range, record { size = past .slots-fit })
+answer-in-words-requires c κs = let past = fit (c .before .before .before) in (past .memory .range, (record { size = past .memory .slots-fit }, past .known))
 
 returns-2 : tie.Need-returns-2
-returns-2 c = c .answer-in-words .ensures ∙ sym (by-vector _ _ _ _ _ (fit (c .before .before .before .before)) (c .before .vector-of .ensures))
+returns-2 c = c .answer-in-words .ensures ∙ sym (by-vector _ _ _ _ _ _ (fit (c .before .before .before .before)) (c .before .vector-of .ensures))
 
 pub lookup-spec : {M : Type 1} → statement M
 lookup-spec =

@@ -14,9 +14,9 @@ returns c = refused-list _ _ _ (c .before .refuse-list .ensures _ refl refl) (c 
 list-in-words-requires : tie.Need-list-in-words-requires
 list-in-words-requires c κs =
     let a = c .before .before .before .before .before .before .before .before .before .args in
-    let passed = list-passed _ _ _ (now (a .counters)) (now (a .slots)) 0 (sym (c .before .before .before .before .refuse-list .ensures _ refl refl) ∙ c .before .before .before .if1 .left) in
-    let fit = passed .0 in
-    (fit .range, (refl, (record { size = fit .counters-fit }, (record { size = fit .slots-fit }, passed .1))))
+    let passed = list-passed _ _ _ (now (a .counters)) (now (a .slots)) (a .party) 0 (sym (c .before .before .before .before .refuse-list .ensures _ refl refl) ∙ c .before .before .before .if1 .left) in
+    let fit = passed .0 .memory in
+    (fit .range, (refl, (record { size = fit .counters-fit }, (record { size = fit .slots-fit }, (passed .0 .known, passed .1)))))
 
 returns-2 : tie.Need-returns-2
 unfolding lookup-list

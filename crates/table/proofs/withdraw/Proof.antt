@@ -8,12 +8,12 @@ use Rattle.table.proofs.withdraw.Statement.{statement}
 use Rattle.table.proofs.withdraw.Tie as tie
 
 returns : tie.Need-returns
-returns c = withdraw-refused _ _ _ _ _ (c .if1 .taken) (c .before .refuse-route .ensures)
+returns c = withdraw-refused _ _ _ _ _ _ (c .if1 .taken) (c .before .refuse-route .ensures)
 
 withdraw-checked-requires : tie.Need-withdraw-checked-requires
 withdraw-checked-requires c κs =
     let checks = c .before .before in
-    checked (route-passed _ _ _ _ _ 0 (sym (checks .before .refuse-route .ensures) ∙ checks .if1 .left) .0)
+    checked (route-passed _ _ _ _ _ _ 0 (sym (checks .before .refuse-route .ensures) ∙ checks .if1 .left) .0)
 
 pub withdraw-spec : {M : Type 1} → statement M
 withdraw-spec =

@@ -1,4 +1,4 @@
--- At length 0 the default's word is emptied; else the search of the bucket answers, and each of its answers means what it
+-- At length 0 the party's default is emptied; else the search of the bucket answers, and each of its answers means what it
 -- means to the rules' withdraw.
 use mathlib.Core.Path.{_∙_, sym, ap₂}
 use denote.Ref.{now}
@@ -16,7 +16,7 @@ use Rattle.updates.proofs.withdraw_checked.Statement.{statement}
 use Rattle.updates.proofs.withdraw_checked.Tie as tie
 
 -- what the checks have told
-fit : (c : tie.Else1) → let a = c .before .before .before .args in RouteFitted (a .settings) (now (a .counters)) (now (a .slots)) (a .p) (a .length)
+fit : (c : tie.Else1) → let a = c .before .before .before .args in RouteFitted (a .settings) (now (a .counters)) (now (a .slots)) (a .party) (a .p) (a .length)
 fit c = route-fitted (c .before .before .before .pre)
 
 ready : (c : tie.Else1) → let a = c .before .before .before .args in Ready (a .settings) (a .length)
@@ -25,7 +25,7 @@ ready c = fitted-ready (fit c) (c .if1 .left)
 returns : tie.Need-returns
 returns c =
     let at-0 = c .before .before .before .before in
-    withdraw-at-0 (route-fitted (at-0 .before .before .before .pre)) (at-0 .if1 .taken) ∙ default-alone _ _ _ _ (c .before .before .change-default .ensures)
+    withdraw-at-0 (route-fitted (at-0 .before .before .before .pre)) (at-0 .if1 .taken) ∙ default-alone _ _ _ _ _ (c .before .before .change-default .ensures)
 
 returns-2 : tie.Need-returns-2
 unfolding place-withdrawn
@@ -52,7 +52,7 @@ put-slot-requires : tie.Need-put-slot-requires
 put-slot-requires c κs =
     let at = c .before .before .before .before .before .before .before in
     let up = at .before .before .before .before in
-    held-lent _ _ (fitted-slots (fit up)) _ _ (ready up) (sym (at .before .before .search-bucket .ensures) ∙ at .place .given .1)
+    held-lent _ _ (fitted-slots (fit up)) _ _ _ (ready up) (sym (at .before .before .search-bucket .ensures) ∙ at .place .given .1)
 
 step-each-requires : tie.Need-step-each-requires
 step-each-requires c κs =
