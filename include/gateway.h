@@ -95,7 +95,8 @@
  * chunk of a dump or of a day.
  *
  * What is proved of these calls: whatever a program does with them after an accepted clear is a history
- * (crates/c_promises/proofs/Seat.antt), of which crates/promises/proofs/Promises.antt states every promise;
+ * (crates/c_promises/proofs/Seat.antt), of which crates/promises/proofs/Promises.antt states every promise, but that
+ * on two parties, which Parties.antt beside it has;
  * and what is read from an answer is what is promised there (crates/c_promises/proofs/Unpacking.antt, and
  * Lists.antt beside it; specs/Numbers.antt there has the functions that take an answer apart). The functions
  * on a table stand on these calls and are tested.

@@ -1,7 +1,7 @@
 /*
  * Two parties on one table, over the archive: what each finds and changes, what they share, every mark at which a slot
- * or a default comes to mean something else, and what is refused of a party; worked out from the rules. The memory is
- * compared whole after every call.
+ * or a default comes to mean something else, and what is refused of a party; worked out from the rules. What a refused
+ * call leaves is compared whole.
  */
 #include "check.h"
 #include "records.h"

@@ -13,11 +13,10 @@ use borrow.Author.Tests.{ltb-true}
 use Rattle.rules.specs.declared.Settings.{Settings}
 use Rattle.rules.specs.declared.Place.{Place}
 use Rattle.rules.specs.Tools.{those}
-use Rattle.rules.specs.Table.{prefix, own, hop-of, default-mark, holds, held, Memory, refuse, memory-refusal, party-refusal, route-refusal, add-refusal, withdraw-refusal, change-refusal, unless-refused, clear, add, withdraw, change, match-vector, down-from, bit-set, set-bits, vector-of, found-or, search as searched, route-answer, default-answer, place-answer, refused, answer-of, lookup, list-refusal, listed, c-list-refusal, c-lookup-list}
+use Rattle.rules.specs.Table.{prefix, own, hop-of, default-mark, held, Memory, refuse, memory-refusal, party-refusal, route-refusal, add-refusal, withdraw-refusal, change-refusal, unless-refused, clear, add, withdraw, change, match-vector, down-from, bit-set, set-bits, vector-of, found-or, search as searched, route-answer, default-answer, place-answer, refused, answer-of, lookup, list-refusal, listed, c-list-refusal, c-lookup-list}
 use Rattle.rules.specs.Calls.{run}
 use Rattle.rules.proofs.Marks.{hop-high}
-use Rattle.rules.proofs.Members.{both}
-use Rattle.rules.proofs.Lowest.{some-lowest}
+use Rattle.rules.proofs.Updates.{held-own}
 use Rattle.message_format.specs.Reading.{update-refusal, message-refusal, message-calls, counts, refused-message, apply-message as do-message}
 use Rattle.message_format.specs.Writing.{writing-refusal, write-withdrawal}
 use Rattle.message_format.proofs.Counting.{counts-fit}
@@ -111,10 +110,10 @@ module _ (t : Settings) (slots : List ℕ) (party address ones : ℕ) where
   -- one bucket more in front of a search
   found-fits : (L probes : ℕ) (o : Option ℕ) (after : Place) → held t slots party (prefix address L) L ≡ o → L ≤ 32 → probes ≤ 32
       → Fits (place-answer t slots party ones after) → Fits (place-answer t slots party ones (found-or t (prefix address L) L probes o after))
-  unfolding place-answer route-answer held holds
+  unfolding place-answer route-answer
   found-fits L probes (some s) after h high few rest = record {
     refusal = omega arith;
-    hop = omega (arith, hop-high party _ (both _ _ (some-lowest (holds t slots party (prefix address L) L) (t .s) s h .passes) .0));
+    hop = omega (arith, hop-high party _ (held-own t slots party (prefix address L) L s h));
     length = omega arith;
     probes = omega arith;
   }

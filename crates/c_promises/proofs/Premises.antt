@@ -224,7 +224,7 @@ module _ {t : Settings} {before : Memory} (worked : Worked t before) where
   unfolding showing
   message-found-met = finds-longest message-lived 1 (lit≤ tt) (ip 10 2 2 3) (lit< tt) (route 1 (ip 10 0 0 0) 8 1) (right (ip 10 2 2 3) (routes-of 1 (stored-by calls (7 ∷ 0 ∷ []))))
 
-  -- after an add of party 0's, party 1 is read the same hop of it
+  -- after an add of party 0's, party 1 reads the same hop of it
   abbrev beside : Memory
   beside = act t (Add 0 (ip 10 2 0 0) 16 3) empty .memory
 

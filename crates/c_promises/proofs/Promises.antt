@@ -9,10 +9,9 @@ use mathlib.Core.Bool.{true}
 use mathlib.Core.List.{List, [], _∷_, append-cancel-left}
 use native.Mathlib.Nat.{zero-add}
 use lib.ListN.{length, getD}
-use borrow.Author.Tests.{ltb-true}
 use Rattle.rules.specs.declared.Settings.{Settings}
 use Rattle.rules.specs.Table.{Memory, one-if, refused, answer-number}
-use Rattle.rules.specs.Calls.{Call, Clear, Withdraw, Change, word-sized}
+use Rattle.rules.specs.Calls.{Call, Clear, Withdraw, Change, act}
 use Rattle.promises.specs.History.{Route, routes-of, stored-by, SingleCalls, History, Ran}
 use Rattle.promises.specs.Demands.{Reordered, Longest, NoMatch, probes-down-to, adds}
 use Rattle.promises.specs.Parties.{no-clear, made-by, SameRoute}
@@ -182,15 +181,18 @@ module _ {t : Settings} {before empty m other-before other-empty other : Memory}
     party-reads-result good other-good i there = rw (result-read asked good i there, result-read other-asked other-good i there)
         (same-for-party history other-history uncleared uncleared-other party same (list-address addresses i) (address-small asked good i there))
 
-  -- Its withdrawals and changes are given the same number.
+  -- An update that is given the same refusal in both is read the same.
+  read-alike : {call : Call} {answer other-answer : ℕ} {m' other' : Memory} → Updated t call m answer m' → Updated t call other other-answer other'
+      → act t call m .refusal ≡ act t call other .refusal → answer ≡ other-answer
+  read-alike updated other-updated alike = updated .crossed .number ∙ ap (λ refusal. refusal * 2 ^ 48) alike ∙ sym (other-updated .crossed .number)
+
+  -- So are its withdrawals and its changes.
   pub party-withdrawal-number : {p L answer other-answer : ℕ} {m' other' : Memory} → Updated t (Withdraw party p L) m answer m' → Updated t (Withdraw party p L) other other-answer other'
       → answer ≡ other-answer
-  unfolding word-sized
   party-withdrawal-number {p} {L} updated other-updated =
-      updated .crossed .number ∙ ap (λ refusal. refusal * 2 ^ 48) (same-withdrawals history other-history uncleared uncleared-other party same p L (ltb-true p (2 ^ 32) (updated .word))) ∙ sym (other-updated .crossed .number)
+      read-alike updated other-updated (same-withdrawals history other-history uncleared uncleared-other party same p L (updated .word))
 
   pub party-change-number : {p L hop answer other-answer : ℕ} {m' other' : Memory} → Updated t (Change party p L hop) m answer m' → Updated t (Change party p L hop) other other-answer other'
       → answer ≡ other-answer
-  unfolding word-sized
   party-change-number {p} {L} {hop} updated other-updated =
-      updated .crossed .number ∙ ap (λ refusal. refusal * 2 ^ 48) (same-changes history other-history uncleared uncleared-other party same p L hop (ltb-true p (2 ^ 32) (updated .word))) ∙ sym (other-updated .crossed .number)
+      read-alike updated other-updated (same-changes history other-history uncleared uncleared-other party same p L hop (updated .word))

@@ -334,8 +334,8 @@ const CASES: [u64; 246] = [
     0x1_00000014_22_20120,
     0x2_00000000_00_00000,
     0x1_00000000_22_40001,
-    // As C calls them: the first six records, cut; for party 1, which is refused all of them but the odd one by 7 and 8;
-    // 12; 14; 19, 1, 2 and 15; and an end inside a record.
+    // As C calls them: the first six records, cut; for party 1, whose routes are refused; 12; 14; 19, 1, 2 and 15; and
+    // an end inside a record.
     0x0_00000065_00_00000,
     0x3_00000000_22_00064,
     0x3_00000064_22_000d0,

@@ -9,14 +9,14 @@ use native.Mathlib.Nat.{suc-ne-zero}
 use native.Mathlib.Omega.{arith}
 use lib.Dec.{eqb, leb}
 use lib.ListN.{length, length-append, length-map}
-use borrow.Author.Tests.{leb-true, ltb-false, eqb-true, eqb-false, ne-eqb, eq-eqb, not-false}
+use borrow.Author.Tests.{leb-true, ltb-false, lt-ltb, eqb-true, eqb-false, ne-eqb, eq-eqb, not-false}
 use Rattle.rules.specs.declared.Settings.{Settings}
 use Rattle.rules.specs.Tools.{within}
-use Rattle.rules.specs.Table.{Memory, refuse}
+use Rattle.rules.specs.Table.{Memory, refuse, memory-refusal, party-refusal}
 use Rattle.rules.specs.Calls.{run}
 use Rattle.rules.proofs.Calls.{answers-length, counted-all}
 use Rattle.rules.proofs.Members.{both, within-true}
-use Rattle.rules.proofs.Refusals.{passed, party-passed}
+use Rattle.rules.proofs.Refusals.{passed, memory-passing, party-passed}
 use Rattle.message_format.specs.Format.{after-prefix, prefixes-fit, prefixes, header-good, withdrawn-from, withdrawn-to, attributes-from, announced-from, attributes-good, parts-fit, withdrawn-prefixes, announced-prefixes, contents-good, well-formed, announces}
 use Rattle.message_format.specs.Reading.{hop-in, is-hop, update-refusal, message-refusal, withdrawals, announcements, message-calls, counts, refused-message, apply-message}
 use Rattle.message_format.proofs.Walks.{by-steps, after-prefix-later, prefixes-none, prefixes-next}
@@ -87,6 +87,12 @@ update-passed message hops e =
 pub message-passed : (t : Settings) (m : Memory) (party : ℕ) (message hops : List ℕ) → message-refusal t m party message hops ≡ 0 → Passed message hops
 unfolding message-refusal
 message-passed t m party message hops e = update-passed message hops (party-passed t (m .counters) (m .slots) party _ e .1)
+
+-- A third party's message is given 15 where settings and sizes are good, whatever stands in it.
+pub unknown-party : (t : Settings) (m : Memory) (party : ℕ) (message hops : List ℕ) → memory-refusal t m 0 ≡ 0 → 1 < party
+    → message-refusal t m party message hops ≡ 15
+unfolding message-refusal party-refusal refuse
+unknown-party t m party message hops fit third = memory-passing t m .accepts fit _ ∙ rw (lt-ltb 1 party third)
 
 -- ---- A message's single calls
 

@@ -1,6 +1,6 @@
--- What one party's lookups tell it is its own doing: two histories under the same settings in which it made the same calls,
--- accepted in the one where they were in the other, leave it the same routes, so that every address leads it to the same hop by
--- the same length. Its probes, the vector, and an 8 or 9 can be due to the other party (proofs/Premises.antt).
+-- What one party's lookups tell it is its own doing. Where two histories have the same calls of the party, and accept the same
+-- ones of them, it has the same routes after both, and every address leads it to the same hop. Its probes, the vector, and an 8 or
+-- 9 can be due to the other party (proofs/Premises.antt).
 use Prim.Native.Nat.{ℕ, _^_, _<_}
 use mathlib.Core.Path.{_≡_, refl, sym, ap, _∙_}
 use mathlib.Core.Bool.{Bool, true, false, cond, _&&_, _||_, false≢true}
@@ -8,7 +8,7 @@ use mathlib.Core.List.{List, [], _∷_}
 use mathlib.Core.Option.{Option, some, none}
 use lib.Dec.{eqb}
 use lib.ListN.{length, getD}
-use borrow.Author.Tests.{eqb-true, eq-eqb, lt-ltb}
+use borrow.Author.Tests.{eqb-true, eq-eqb}
 use Rattle.rules.specs.declared.Settings.{Settings}
 use Rattle.rules.specs.Table.{Memory, party-refusal, refused, lookup, listed, list-refusal, lookup-list}
 use Rattle.rules.specs.Calls.{Call, Clear, Add, Withdraw, Change, word-sized, act}
@@ -174,21 +174,25 @@ module _ {t : Settings} {calls others : List Call} {answers other-answers : List
       (λ above. rw (lookup-above (kept history) party address above, lookup-above (kept other-history) party address above)
       (record { refusal = refl; found = refl; hop = refl; length = refl }))
 
+  -- a route of the party's is stored in both or in neither
+  same-stored : (p L : ℕ) → exists (about party p L) (stored-by calls answers) ≡ exists (about party p L) (stored-by others other-answers)
+  same-stored p L =
+      exists-own party p L (stored-by calls answers) ∙ ap (exists (about party p L)) same-own-routes ∙ sym (exists-own party p L (stored-by others other-answers))
+
+  -- a call that the routes of both give the same number is given it in both
+  same-given : (call : Call) → word-sized call ≡ true → number-given t (stored-by calls answers) call ≡ number-given t (stored-by others other-answers) call
+      → act t call m .refusal ≡ act t call other .refusal
+  same-given call word by-routes = numbers-given history call word ∙ by-routes ∙ sym (numbers-given other-history call word)
+
   -- Its withdrawals are given the same number,
-  pub same-withdrawals : (p L : ℕ) → p < 2 ^ 32 → act t (Withdraw party p L) m .refusal ≡ act t (Withdraw party p L) other .refusal
-  unfolding number-given withdraw-number word-sized
-  same-withdrawals p L word =
-      numbers-given history (Withdraw party p L) (lt-ltb p (2 ^ 32) word)
-      ∙ rw (exists-own party p L (stored-by calls answers), same-own-routes, ← exists-own party p L (stored-by others other-answers))
-      (sym (numbers-given other-history (Withdraw party p L) (lt-ltb p (2 ^ 32) word)))
+  pub same-withdrawals : (p L : ℕ) → word-sized (Withdraw party p L) ≡ true → act t (Withdraw party p L) m .refusal ≡ act t (Withdraw party p L) other .refusal
+  unfolding number-given withdraw-number
+  same-withdrawals p L word = same-given (Withdraw party p L) word (rw (same-stored p L))
 
   -- and so are its changes.
-  pub same-changes : (p L hop : ℕ) → p < 2 ^ 32 → act t (Change party p L hop) m .refusal ≡ act t (Change party p L hop) other .refusal
-  unfolding number-given change-number word-sized
-  same-changes p L hop word =
-      numbers-given history (Change party p L hop) (lt-ltb p (2 ^ 32) word)
-      ∙ rw (exists-own party p L (stored-by calls answers), same-own-routes, ← exists-own party p L (stored-by others other-answers))
-      (sym (numbers-given other-history (Change party p L hop) (lt-ltb p (2 ^ 32) word)))
+  pub same-changes : (p L hop : ℕ) → word-sized (Change party p L hop) ≡ true → act t (Change party p L hop) m .refusal ≡ act t (Change party p L hop) other .refusal
+  unfolding number-given change-number
+  same-changes p L hop word = same-given (Change party p L hop) word (rw (same-stored p L))
 
   -- A list of addresses of the party's is given the same number over as many results,
   pub same-list-number-for-party : (addresses results other-results : List ℕ) → length results ≡ length other-results

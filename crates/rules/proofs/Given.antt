@@ -1,4 +1,4 @@
--- Which numbers calls on good routes are given: a call keeps the sizes of the memory, so that past 1 to 5 only 7 to 11 are left for each.
+-- Which numbers calls on good routes are given: a call keeps the sizes of the memory, so that past 1 to 5 and 15 only 7 to 11 are left for each.
 use Prim.Native.Nat.{ℕ, _+_, _-_, _≤_}
 use mathlib.Core.Path.{_≡_, refl, ap, _∙_}
 use mathlib.Core.Bool.{Bool, true, false, cond}

@@ -253,7 +253,8 @@ pub change-order : (t : Settings) (m : Memory) (party p L hop : ℕ) → change-
 unfolding change-refusal route-refusal
 change-order t m party p L hop = refl
 
-pub list-order : (t : Settings) (m : Memory) (party addresses results after : ℕ)
-    → list-refusal t m party addresses results after ≡ party-refusal t m party (refuse (not (fourfold addresses results)) 18 after)
-unfolding list-refusal
-list-order t m party addresses results after = refl
+-- what a list's memory is refused for goes before its party and its sizes
+pub list-memory-first : (t : Settings) (m : Memory) (party addresses results after : ℕ) → (memory-refusal t m 0 ≡ 0 → ⊥)
+    → list-refusal t m party addresses results after ≡ memory-refusal t m 0
+unfolding list-refusal party-refusal
+list-memory-first t m party addresses results after bad = memory-passing t m .refuses bad _

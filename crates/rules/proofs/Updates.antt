@@ -34,6 +34,11 @@ module _ (t : Settings) (slots : List ℕ) (party p L : ℕ) where
   unfolding needs-slot from-1
   new-needs-slot up fresh = rw (ne-eqb L 0 up, fresh)
 
+-- a slot that holds p for a party has a mark of the party's
+pub held-own : (t : Settings) (slots : List ℕ) (party p L s : ℕ) → held t slots party p L ≡ some s → own party (mark-at slots (slot-number t p L s)) ≡ true
+unfolding held holds
+held-own t slots party p L s there = both _ _ (some-lowest (holds t slots party p L) (t .s) s there .passes) .0
+
 -- a prefix with a slot of its own is stored
 pub held-is-stored : (t : Settings) (slots : List ℕ) (party p L : ℕ) → (L ≡ 0 → ⊥) → (s : ℕ) → held t slots party p L ≡ some s → stored t slots party p L ≡ true
 unfolding stored is-some
@@ -110,7 +115,7 @@ module _ (t : Settings) (counters slots : List ℕ) (party p L : ℕ) {given : �
   unfolding add add-refusal
   add-refused hop e = refused-by (add-refusal t (lent counters slots) party p L hop) _ _ (stopped (add-passing t (lent counters slots) party p L hop) e bad _) bad
 
--- a route that has passed 1 to 4 and is odd gets 11, whatever its hop
+-- a route that has passed 1 to 4 and 15 and is odd gets 11, whatever its hop
 pub add-odd : {t : Settings} {counters slots : List ℕ} {party p L : ℕ} → RouteFitted t counters slots party p L → odd-prefix p L ≡ true
     → (hop : ℕ) → add t (lent counters slots) party p L hop ≡ left 11 counters slots
 unfolding route-refusal refuse

@@ -492,7 +492,7 @@ parties =
     -- a clear empties both
     ∷ case (written (clear T (both-ten .memory))) (0 ∷ replicate 512 0 ++ replicate 258 0)
     -- W22: a party above 1 gets 15, after 1 and 2 and before all else
-    ∷ case (add T ten 2 (ip 10 0 0 1) 33 65536 .refusal ∷ withdraw T ten 2 (ip 10 0 0 0) 8 .refusal ∷ change T ten 4294967295 (ip 10 0 0 0) 8 3 .refusal ∷ []) (15 ∷ 15 ∷ 15 ∷ [])
+    ∷ case (add T ten 2 (ip 10 0 0 1) 33 65536 .refusal ∷ withdraw T ten 2 (ip 10 0 0 1) 33 .refusal ∷ change T ten 4294967295 (ip 10 0 0 1) 33 65536 .refusal ∷ []) (15 ∷ 15 ∷ 15 ∷ [])
     ∷ case (written (add T ten 2 (ip 8 0 0 0) 8 5)) (15 ∷ ten .counters ++ ten .slots)
     ∷ case (figures (lookup T ten 2 (ip 10 2 2 3))) (15 ∷ 0 ∷ 0 ∷ 0 ∷ 0 ∷ [])
     ∷ case (told (lookup-list T ten 2 asked (sevens 15))) (15 ∷ sevens 15)

@@ -116,12 +116,12 @@ pub fn withdraw_checked(
     if length == 0 {
         return change_default(settings, slots, party, 0);
     }
-    let place = search_bucket(settings, slots, party, p, length);
+    let held = search_bucket(settings, slots, party, p, length);
     let Place::At {
         slot,
         length: _,
         probes: _,
-    } = place
+    } = held
     else {
         return 7;
     };

@@ -1,4 +1,4 @@
--- The three lists keep their lengths.
+-- The three lists keep their lengths, and the cases can be counted.
 use Prim.Native.Nat.{_-_, _^_, _<_}
 use mathlib.Core.Path.{_≡_}
 use lib.ListN.{length}

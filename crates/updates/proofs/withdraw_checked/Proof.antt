@@ -45,14 +45,14 @@ returns-3 c =
     let places = c .before .before .before .before in
     let at = places .before .before in
     let up = at .before .before .before .before in
-    withdraw-by-place (fit up) (up .if1 .left) (sym (at .place .given .1) ∙ at .before .before .search-bucket .ensures)
+    withdraw-by-place (fit up) (up .if1 .left) (sym (at .held .given .1) ∙ at .before .before .search-bucket .ensures)
     ∙ refused-by _ _ _ (c .before .refuse-step .ensures ∙ cannot-lower (places .places-of .ensures) _) (c .if2 .taken)
 
 put-slot-requires : tie.Need-put-slot-requires
 put-slot-requires c κs =
     let at = c .before .before .before .before .before .before .before in
     let up = at .before .before .before .before in
-    held-lent _ _ (fitted-slots (fit up)) _ _ _ (ready up) (sym (at .before .before .search-bucket .ensures) ∙ at .place .given .1)
+    held-lent _ _ (fitted-slots (fit up)) _ _ _ (ready up) (sym (at .before .before .search-bucket .ensures) ∙ at .held .given .1)
 
 step-each-requires : tie.Need-step-each-requires
 step-each-requires c κs =
@@ -70,7 +70,7 @@ returns-4 c =
     let places = enough .before .before .before .before in
     let at = places .before .before in
     let up = at .before .before .before .before in
-    withdraw-by-place (fit up) (up .if1 .left) (sym (at .place .given .1) ∙ at .before .before .search-bucket .ensures)
+    withdraw-by-place (fit up) (up .if1 .left) (sym (at .held .given .1) ∙ at .before .before .search-bucket .ensures)
     ∙ accepted-by _ _ _ (enough .before .refuse-step .ensures ∙ cannot-lower (places .places-of .ensures) _) (enough .if2 .left)
     ∙ ap₂ (left 0) (sym (stepped .step-each .ensures ∙ lowered (places .places-of .ensures) _)) (sym (put .put-slot .ensures))
 
