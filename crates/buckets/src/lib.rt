@@ -1,4 +1,6 @@
 // Buckets of slots, over lent words: a slot's prefix, then its mark.
+#![tactic(auto)]
+
 ghost use Rattle.std.specs.Prelude.{◌≡◌, true, ◌≤◌, ◌<◌, length, set};
 ghost use Rattle.rules.specs.Table.{in_range, slot_number, mark_word, default_word, mark_at, prefix_at, default_mark, with_slot, set_bits, search, first_mark, own, occupied, mark_of};
 ghost use Rattle.rules.specs.Ready.{Ready, Slots};
@@ -11,7 +13,7 @@ use prefixes::prefix_of;
 use rules::{Place, Settings, Vacancy};
 
 // One length's part in a search of buckets.
-#[derive(Drop)]
+#[derive(Clone, Copy)]
 pub struct Turn {
     pub p: u32,
     pub length: u32,

@@ -1,5 +1,7 @@
 // The calls from C on settings that C lends as numbers and a list, and on slots that it lends as bytes,
 // four to a word, the low byte first. What C gets back is packed in crates/gateway.
+#![tactic(auto)]
+
 ghost use Rattle.std.specs.Prelude.{◌≡◌};
 ghost use Rattle.rules.specs.Table.{lent, words, memory_refusal, lookup, match_vector, answered, c_lookup_list};
 ghost use Rattle.c_calls.specs.Lent.{settings_of, whole};

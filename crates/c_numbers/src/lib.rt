@@ -1,4 +1,6 @@
 // What a call gives back as the one number that C gets.
+#![tactic(auto)]
+
 ghost use Rattle.std.specs.Prelude.{◌≡◌, ◌*◌, ◌^◌};
 ghost use Rattle.rules.specs.Table.{answer_number, vector_number};
 ghost use Rattle.difference_rules.specs.Comparing.{differences_number};

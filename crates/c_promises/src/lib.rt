@@ -3,3 +3,5 @@
 // shows that what it did after an accepted clear is a history, and proofs/Unpacking.antt, proofs/Lists.antt,
 // proofs/Comparisons.antt and proofs/Chunks.antt that what it reads is what the rules answer, so that all of
 // crates/promises holds of it.
+#![tactic(auto)]
+

@@ -1,5 +1,7 @@
 // Words of 32 bits in lent bytes, four to a word, the low byte first; and the search of buckets
 // whose slots are lent so. Nothing is copied.
+#![tactic(auto)]
+
 ghost use Rattle.std.specs.Prelude.{◌≡◌, true, [], ◌∷◌, ◌+◌, ◌*◌, ◌^◌, ◌<◌, ◌≤◌, length, get_or};
 ghost use Rattle.std.proofs.lemmas.List.Edits.{sets};
 ghost use Rattle.rules.specs.Table.{in_range, mark_word, mark_at, default_mark, set_bits, search, words, bytes_of};

@@ -3,3 +3,5 @@
 // proofs/Callers.antt shows that what it did after an accepted clear is a history, and so all of crates/promises,
 // crates/difference_promises, crates/message_promises, crates/import_promises and crates/replay_promises holds of what it
 // was given.
+#![tactic(auto)]
+

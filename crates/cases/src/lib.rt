@@ -1,5 +1,7 @@
 // What the programs of cases share: the parts of a case, the settings and sizes that cases set, and how
 // lent memory is damaged, copied and shown.
+#![tactic(auto)]
+
 ghost use Rattle.io.specs.Counts.{IsPrefixLen};
 
 use libc::STDOUT_FILENO;
@@ -31,7 +33,7 @@ pub const LEND_SLOTS: u32 = 15;
 
 // How much is lent: counters, values of D to C, words, and bytes for the words to C; whether it is C
 // alone that calls; and the party that a case names.
-#[derive(Drop)]
+#[derive(Clone, Copy)]
 pub struct Lent {
     pub counters: usize,
     pub values: usize,

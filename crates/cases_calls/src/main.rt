@@ -2,6 +2,8 @@
 // calls. Each line has a case and what its call gives back; what can be asked from C too is asked both
 // ways, and after a call that writes two sums show what the lent memory holds. The file stdout comes
 // from the rules alone: tests/cases works it out, and has no code of the crates.
+#![tactic(auto)]
+
 use cases::Lent;
 use rules::Settings;
 

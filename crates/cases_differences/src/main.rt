@@ -1,6 +1,8 @@
 // Two tables compared for a party, from C and by words. A line has a case and what an add gives back, or what either
 // comparison gives back and leaves in the list: the words that were lent and one more, byte by byte. The file stdout comes
 // from the rules alone: tests/cases works it out.
+#![tactic(auto)]
+
 use gateway::gateway_list_differences;
 use libc::STDOUT_FILENO;
 use rules::Settings;

@@ -1,6 +1,7 @@
 // Dumps imported in chunks, by the crates' own calls and then as C calls them, over a table of settings T. A
 // line has a case and, if that is a chunk or an end, what the call gives back and what is lent then holds. The
 // file stdout comes from the rules alone: tests/cases works it out.
+#![tactic(auto)]
 
 // What a case does. Zeros for the stream's words and the counts, and a table that is cleared.
 const BEGIN: u32 = 0;
@@ -642,7 +643,7 @@ const CASES: [u64; 473] = [
 ];
 
 // K, how much is lent to a chunk, whether it is C that calls, and for which party.
-#[derive(Drop)]
+#[derive(Clone, Copy)]
 struct Lent {
     k: u32,
     counters: usize,

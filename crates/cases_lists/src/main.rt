@@ -1,6 +1,8 @@
 // Lists of addresses, asked of the table and from C. A line has a case and, if that asks, what either
 // call gives back and leaves in the results: the words that were lent and one more, byte by byte. The
 // file stdout comes from the rules alone: tests/cases works it out.
+#![tactic(auto)]
+
 use gateway::gateway_lookup_list;
 use libc::STDOUT_FILENO;
 use rules::Settings;
@@ -98,7 +100,7 @@ const CASES: [u64; 61] = [
 const ADDRESSES: [u32; 5] = [0x08010203, 0x0a010203, 0x0a020203, 0x0b000001, 0x0a010203];
 
 // How much is lent: values of D to C, and counters to an add.
-#[derive(Drop)]
+#[derive(Clone, Copy)]
 struct Lent {
     values: usize,
     counters: usize,

@@ -1,6 +1,8 @@
 // Messages read and withdrawals written, by the crates' own calls and then as C calls them. A line has a case
 // and what its call gives back, and sums of what the lent memory then holds. The file stdout comes from the
 // rules alone: tests/cases works it out.
+#![tactic(auto)]
+
 use cases::Lent;
 use libc::STDOUT_FILENO;
 use rules::Settings;

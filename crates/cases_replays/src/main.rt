@@ -2,6 +2,7 @@
 // T. A line has a case, what it gives back if that is a call, and what is lent then holds: after a chunk sums of
 // the table and of the room's front, and in every line the tally and the stream's words. The file stdout comes from
 // the rules alone: tests/cases works it out.
+#![tactic(auto)]
 
 // What a case does, beside the damage of crates/cases, whose words are here those of the tally. All begins anew:
 // a cleared table, zeros for the stream's words, the tally FIGURES, and the day but for a byte, whose place stands

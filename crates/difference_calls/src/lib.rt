@@ -1,5 +1,7 @@
 // Two tables compared for a party. The differences are counted first, since a list that is too short gets none of
 // them. No call requires anything: bad input gets its number and changes nothing.
+#![tactic(auto)]
+
 ghost use Rattle.std.specs.Prelude.{◌≡◌, length};
 ghost use Rattle.rules.specs.Table.{Memory, lent, memory_refusal, party_refusal};
 ghost use Rattle.difference_rules.specs.Comparing.{with_count, compared, difference, c_difference};

@@ -1,5 +1,7 @@
 // The next prefix that a table has at a length, found by one pass over the slots of that length, in words or in
 // lent bytes. Nothing is kept between two passes but the prefix from which the next one goes on.
+#![tactic(auto)]
+
 ghost use Rattle.std.specs.Prelude.{◌≡◌, true, ◌*◌, ◌^◌, ◌≤◌};
 ghost use Rattle.rules.specs.Table.{in_range, words};
 ghost use Rattle.rules.specs.Ready.{Ready, Slots};
@@ -13,7 +15,7 @@ use rules::Settings;
 
 // A prefix that lies ahead, and the mark that the table has there, as it is told; 2^32, which is no prefix, and
 // mark 0 where there is none.
-#[derive(Drop)]
+#[derive(Clone, Copy)]
 pub struct Ahead {
     pub prefix: u64,
     pub mark: u32,

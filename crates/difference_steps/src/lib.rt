@@ -1,5 +1,7 @@
 // One step of a walk over two tables: the nearer of the prefixes that lie ahead, what both tables have there, and a place in the
 // list for it if that is a difference. The list is one of words, or of bytes.
+#![tactic(auto)]
+
 ghost use Rattle.std.specs.Prelude.{◌≡◌, [], ◌∷◌, ◌+◌, ◌^◌, ◌≤◌, ◌<◌, length};
 ghost use Rattle.std.proofs.lemmas.List.Edits.{sets};
 ghost use Rattle.rules.specs.Table.{bytes_of};
@@ -11,7 +13,7 @@ use difference_rules::Difference;
 use difference_search::Ahead;
 
 // What lies ahead in each table, at one length.
-#[derive(Drop)]
+#[derive(Clone, Copy)]
 pub struct Walk {
     pub first: Ahead,
     pub second: Ahead,

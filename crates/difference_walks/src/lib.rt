@@ -1,6 +1,8 @@
 // A walk over two tables, for a party: the prefixes at which they differ, by rising length and then rising prefix, with
 // what each table has there, counted, and put into a list if they are to be written. Both tables are only read. Each
 // step stands here for slots and a list of words, and again for those lent as bytes.
+#![tactic(auto)]
+
 ghost use Rattle.std.specs.Prelude.{◌≡◌, true, ◌*◌, ◌^◌, ◌≤◌, ◌<◌, length as count_of};
 ghost use Rattle.rules.specs.Table.{in_range, words, bytes_of};
 ghost use Rattle.rules.specs.Ready.{Ready, Slots};

@@ -1,4 +1,6 @@
 // One counting filter per length, over lent bytes. An update hashes its prefix once, into places.
+#![tactic(auto)]
+
 ghost use Rattle.std.specs.Prelude.{◌≡◌, ◌+◌, ◌*◌, ◌%◌, ◌^◌, ◌≤◌, false};
 ghost use Rattle.rules.specs.Table.{wrap, filter_start, refuse, claims, step_each};
 ghost use Rattle.rules.specs.Ready.{Ready, Counters};
@@ -11,7 +13,7 @@ use rules::Settings;
 pub type Places = [usize; 8];
 
 // What an update does to the counter at each of its places.
-#[derive(Drop)]
+#[derive(Clone, Copy)]
 pub enum Step {
     Raise,
     Lower,

@@ -2,6 +2,8 @@
 // keeps anything or copies the memory. Questions read the slots as bytes, four to a word, the
 // low byte first; the updates write them as words of the machine. What a C program may rely on is
 // proved in crates/c_promises.
+#![tactic(auto)]
+
 ghost use Rattle.std.specs.Prelude.{◌≡◌};
 ghost use Rattle.rules.specs.Table.{lent, c_lookup, c_match_vector, c_lookup_list, clear, add, withdraw, change};
 ghost use Rattle.message_format.specs.Reading.{apply_message};

@@ -1,4 +1,6 @@
 // The hashes: products of 32 bits whose top bits are kept.
+#![tactic(auto)]
+
 ghost use Rattle.std.specs.Prelude.{◌≡◌, ◌*◌, ◌/◌, ◌-◌, ◌^◌, ◌≤◌};
 ghost use Rattle.rules.specs.Table.{wrap, bucket};
 

@@ -1,5 +1,7 @@
 // Fills a table from a dump that comes in chunks. Each record adds its route as soon as its last byte is there.
 // The call requires nothing, and keeps nothing but what is lent: counts, the words of the stream and its room.
+#![tactic(auto)]
+
 ghost use Rattle.std.specs.Prelude.{◌≤◌, ◌≡◌, true, [], ◌∷◌, length, take};
 ghost use Rattle.rules.specs.Table.{lent, in_range};
 ghost use Rattle.rules.specs.Ready.{Counters, Slots};
@@ -20,14 +22,14 @@ use stream_records::{keep_stage, next_record, stage_of};
 use updates::add_announced;
 
 // What a record did: the counts with it, or a fault in it.
-#[derive(Drop)]
+#[derive(Clone, Copy)]
 enum Step {
     Good(ImportCounts),
     Fault,
 }
 
 // Where a stream stands after a chunk, and what was counted.
-#[derive(Drop)]
+#[derive(Clone, Copy)]
 struct Taken {
     stage: Stage,
     counts: ImportCounts,

@@ -1,4 +1,6 @@
 // Reads a whole record of a dump before anything is done with it: whether it is well-formed, and its route.
+#![tactic(auto)]
+
 ghost use Rattle.std.specs.Prelude.{◌≤◌, ◌≡◌, length};
 ghost use Rattle.import_readers.specs.Records.{entries_read, record_read};
 
@@ -6,14 +8,14 @@ use message_cursors::{NextPrefix, Prefixes, two_bytes};
 use message_readers::{Hop, HopRead, hop_due, read_hop};
 
 // What the entries of a record hold: the first hop, where one has its place in the list; or a fault.
-#[derive(Drop)]
+#[derive(Clone, Copy)]
 pub enum EntriesRead {
     Good(Hop),
     Fault,
 }
 
 // A record: its route with the hop of the first entry that has one; no such entry; or a fault.
-#[derive(Drop)]
+#[derive(Clone, Copy)]
 pub enum RecordRead {
     Route { prefix: u32, length: u32, hop: u32 },
     Hopless,

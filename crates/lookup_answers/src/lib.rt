@@ -1,4 +1,6 @@
 // What a mark answers to a lookup, and an answer's found as a number.
+#![tactic(auto)]
+
 ghost use Rattle.std.specs.Prelude.{◌≡◌, ◌≤◌, true};
 ghost use Rattle.rules.specs.Table.{own, route_answer, default_answer, refused, one_if};
 

@@ -1,5 +1,7 @@
 // Addresses answered, once the checks are passed: one address, or a list of them with four results to
 // an answer. Each stands here for slots and lists of words, and again for those lent as bytes.
+#![tactic(auto)]
+
 ghost use Rattle.std.specs.Prelude.{◌≡◌, true, ◌+◌, ◌*◌, ◌%◌, ◌≤◌, length};
 ghost use Rattle.std.proofs.lemmas.List.Edits.{sets};
 ghost use Rattle.rules.specs.Table.{in_range, lent, set_bits, search, place_answer, words, answer_words, list_words, bytes_of};

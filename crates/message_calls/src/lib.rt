@@ -1,6 +1,8 @@
 // A neighbour's message, read and applied: every check is passed before the first byte of the table is
 // written. apply_message requires nothing: bad input gets its number and changes nothing. apply_update is for
 // callers that have checked settings, sizes and party.
+#![tactic(auto)]
+
 ghost use Rattle.std.specs.Prelude.{◌≤◌, ◌≡◌, true};
 ghost use Rattle.rules.specs.Table.{lent, left, in_range};
 ghost use Rattle.rules.specs.Calls.{act};
@@ -31,7 +33,7 @@ fn report_refused(refusal: u32) -> Report
 // How many single calls were accepted, how many were refused, and how many of these under each number that a
 // route of a message can be given: 7 (not stored), 8 (the bucket is full), 9 (a counter would pass 15), 10 (a
 // counter would pass below 0) and 11 (an odd prefix).
-#[derive(Drop)]
+#[derive(Clone, Copy)]
 pub struct Counts {
     pub accepted: u32,
     pub refused: u32,
@@ -97,7 +99,7 @@ fn report_counts(counts: Counts) -> Report
 }
 
 // What is done with each prefix of a part: it is withdrawn, or added with this hop.
-#[derive(Drop)]
+#[derive(Clone, Copy)]
 enum Task {
     Withdraw,
     Add(u32),
@@ -173,7 +175,7 @@ fn apply_parts(
 
 // What a message did: its single calls are counted; prefixes are announced without a hop that is in the list;
 // or it is not well-formed.
-#[derive(Drop)]
+#[derive(Clone, Copy)]
 pub enum Applied {
     Good(Counts),
     Hopless,

@@ -1,5 +1,7 @@
 // Reads prefixes and path attributes one by one, out of any part of any bytes. A cursor goes in by value
 // and what it reads comes back with the moved cursor; no byte outside the part is looked at.
+#![tactic(auto)]
+
 ghost use Rattle.std.specs.Prelude.{◌≡◌, ◌+◌, ◌≤◌, ◌<◌, length};
 ghost use Rattle.message_format.specs.Format.{from_octets, two_bytes, four_bytes, address_at, octet, bytes_for, value_from, value_size};
 ghost use Rattle.message_cursors.specs.Steps.{next_prefix, next_attribute};
@@ -7,7 +9,7 @@ ghost use Rattle.message_cursors.specs.Steps.{next_prefix, next_attribute};
 use prefixes::prefix_of;
 
 // Where the next prefix starts, and where the prefixes end.
-#[derive(Drop)]
+#[derive(Clone, Copy)]
 pub struct Prefixes {
     pub at: usize,
     pub end: usize,
@@ -15,7 +17,7 @@ pub struct Prefixes {
 
 // What stands at a cursor: a prefix, with the cursor moved past it; nothing more; or a prefix that is too
 // long or overruns its part, or a part that overruns the bytes.
-#[derive(Drop)]
+#[derive(Clone, Copy)]
 pub enum NextPrefix {
     Prefix {
         prefix: u32,
@@ -27,7 +29,7 @@ pub enum NextPrefix {
 }
 
 // Where the next attribute starts, and where the attributes end.
-#[derive(Drop)]
+#[derive(Clone, Copy)]
 pub struct Attributes {
     pub at: usize,
     pub end: usize,
@@ -36,7 +38,7 @@ pub struct Attributes {
 // What stands at a cursor: an attribute's type, where its value starts and how many bytes that has, with
 // the cursor moved past it; nothing more; or an attribute that overruns its part, or a part that
 // overruns the bytes.
-#[derive(Drop)]
+#[derive(Clone, Copy)]
 pub enum NextAttribute {
     Attribute {
         kind: u8,

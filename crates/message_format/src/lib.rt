@@ -1,10 +1,11 @@
 // The messages of a neighbour, BGP's UPDATEs, as definitions that are computed (specs/) and laws about
 // them (proofs/): what a message says, what is wrong with it, what it does to a table, and how a
 // withdrawal is written. There is no code here: only the type that the call and its definition share.
+#![tactic(auto)]
 
 // What a message is given back: how many of its routes the table accepted and how many it refused; or a
 // refusal's number and zeros.
-#[derive(Drop)]
+#[derive(Clone, Copy)]
 pub struct Report {
     pub refusal: u32,
     pub accepted: u32,

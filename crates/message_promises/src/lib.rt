@@ -2,3 +2,5 @@
 // history has of a message and what a message is refused for are defined in specs/Heard.antt. A message is single calls
 // (proofs/Routes.antt), so that all of crates/promises holds after it; what is said of the message itself is in
 // proofs/Promises.antt and proofs/Refused.antt.
+#![tactic(auto)]
+

@@ -1,5 +1,7 @@
 // Reads a whole message before anything is done with it: whether it is well-formed, where its parts lie,
 // its NEXT_HOP, and the place of that in a list of next hops.
+#![tactic(auto)]
+
 ghost use Rattle.std.specs.Prelude.{◌≡◌, ◌≤◌, length};
 ghost use Rattle.message_format.specs.Format.{prefixes_fit, all_ones, header_good};
 ghost use Rattle.message_readers.specs.Readings.{hop_read, hop_found, hop_due, message_read};
@@ -7,28 +9,28 @@ ghost use Rattle.message_readers.specs.Readings.{hop_read, hop_found, hop_due, m
 use message_cursors::{Attributes, NextAttribute, NextPrefix, Prefixes, four_bytes, two_bytes};
 
 // The NEXT_HOP among attributes: its address, where there is one.
-#[derive(Drop)]
+#[derive(Clone, Copy)]
 pub enum NextHop {
     Missing,
     Given(u32),
 }
 
 // What a part's attributes hold, or a fault in them.
-#[derive(Drop)]
+#[derive(Clone, Copy)]
 pub enum HopRead {
     Good(NextHop),
     Fault,
 }
 
 // A hop number: the lowest place of an address in the list, where it has one up to 65,535.
-#[derive(Drop)]
+#[derive(Clone, Copy)]
 pub enum Hop {
     At(u32),
     Missing,
 }
 
 // A message: where the withdrawn routes end and the announced ones begin, and its NEXT_HOP; or a fault.
-#[derive(Drop)]
+#[derive(Clone, Copy)]
 pub enum Message {
     Good {
         withdrawn_to: usize,

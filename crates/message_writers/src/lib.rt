@@ -1,4 +1,6 @@
 // Writes the message that withdraws one route, into lent room of exactly its size.
+#![tactic(auto)]
+
 ghost use Rattle.std.specs.Prelude.{◌≡◌};
 ghost use Rattle.rules.specs.Table.{answered};
 ghost use Rattle.message_format.specs.Writing.{write_withdrawal};

@@ -1,4 +1,6 @@
 // Prefixes by masks, and which of them are odd.
+#![tactic(auto)]
+
 ghost use Rattle.std.specs.Prelude.{◌≡◌, ◌-◌, ◌^◌, ◌≤◌};
 ghost use Rattle.rules.specs.Table.{prefix, lies_in, odd_prefix};
 

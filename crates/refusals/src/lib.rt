@@ -1,5 +1,7 @@
 // What a call checks before it looks into the memory: an update 1, 2, 15, 3 and 4 of its party and its route,
 // and 5 of its hop; an add 11 between them; a list of addresses 1, 2, 15 and 18. 0 is no refusal.
+#![tactic(auto)]
+
 ghost use Rattle.std.specs.Prelude.{◌≡◌, ltb, length};
 ghost use Rattle.rules.specs.Table.{Memory, lent, refuse, party_refusal, add_checks, route_refusal, list_refusal};
 

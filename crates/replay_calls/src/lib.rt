@@ -1,6 +1,8 @@
 // Replays a recorded day that comes in chunks. As soon as a record's last byte is there, its UPDATE is applied and
 // the record is tallied. The call requires nothing, and keeps nothing but what is lent: the tally, the words of
 // the stream and its room.
+#![tactic(auto)]
+
 ghost use Rattle.std.specs.Prelude.{◌≤◌, ◌≡◌, true, length, take};
 ghost use Rattle.rules.specs.Table.{lent, in_range};
 ghost use Rattle.rules.specs.Ready.{Counters, Slots};
@@ -24,14 +26,14 @@ use stream_records::{keep_stage, next_record, stage_of};
 
 // What a record did: it is seen, with 1 where its UPDATE was applied, or 0, and what was counted of its routes; or
 // there is a fault in it.
-#[derive(Drop)]
+#[derive(Clone, Copy)]
 enum Replayed {
     Seen { applied: u32, counts: Counts },
     Fault,
 }
 
 // Where a stream stands after a chunk, and what was tallied.
-#[derive(Drop)]
+#[derive(Clone, Copy)]
 struct Taken {
     stage: Stage,
     tally: Tally,

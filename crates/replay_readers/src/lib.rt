@@ -1,4 +1,6 @@
 // Reads what a record of a recorded day holds, as far as the start of its message.
+#![tactic(auto)]
+
 ghost use Rattle.std.specs.Prelude.{◌≤◌, ◌≡◌, length};
 ghost use Rattle.replay_format.specs.Messages.{family_from};
 ghost use Rattle.replay_readers.specs.Held.{record_held};
@@ -7,7 +9,7 @@ use message_cursors::two_bytes;
 
 // What a record holds: an UPDATE of IPv4, from this place to the record's end; something else; or less than it
 // should.
-#[derive(Drop)]
+#[derive(Clone, Copy)]
 pub enum Held {
     Update { at: usize },
     Other,

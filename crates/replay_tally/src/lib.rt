@@ -1,5 +1,7 @@
 // The running tally of a replay: a step by value, and the thin function that changes a lent tally where it
 // stands, once for each record.
+#![tactic(auto)]
+
 ghost use Rattle.std.specs.Prelude.{◌≡◌};
 ghost use Rattle.replay_format.specs.Replaying.{tally_of, tally_words, tally_high};
 ghost use Rattle.replay_tally.specs.Steps.{tally_added, Addable};

@@ -1,8 +1,9 @@
 // The rules of the gateway table, as definitions that are computed (specs/) and laws about them
 // (proofs/). There is no code here: only the types that the definitions and every call share.
+#![tactic(auto)]
 
 // What a table is built with. Any numbers can be given; those out of range are refused.
-#[derive(Drop)]
+#[derive(Clone, Copy)]
 pub struct Settings {
     // K, hash steps.
     pub k: u32,
@@ -20,7 +21,7 @@ pub struct Settings {
 
 // What a search that ends nowhere has for a route to come: the lowest free slot of the bucket, by its
 // number; or none, since the bucket is full, or since a lookup keeps none.
-#[derive(Drop)]
+#[derive(Clone, Copy)]
 pub enum Vacancy {
     Free(usize),
     Full,
@@ -28,7 +29,7 @@ pub enum Vacancy {
 
 // Where a search of buckets ends: the slot's number, the length at which it lies and the buckets
 // searched; or nowhere.
-#[derive(Drop)]
+#[derive(Clone, Copy)]
 pub enum Place {
     At {
         length: u32,
@@ -39,7 +40,7 @@ pub enum Place {
 }
 
 // What a lookup answers. A refusal has its number and zero elsewhere; 0 is no refusal.
-#[derive(Drop)]
+#[derive(Clone, Copy)]
 pub struct Answer {
     pub refusal: u32,
     pub found: bool,
@@ -49,7 +50,7 @@ pub struct Answer {
 }
 
 // What a match vector is asked for: the vector, or a refusal's number and zero.
-#[derive(Drop)]
+#[derive(Clone, Copy)]
 pub struct Vector {
     pub refusal: u32,
     pub vector: u32,

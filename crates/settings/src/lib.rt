@@ -1,5 +1,7 @@
 // What every call checks first: settings in their ranges, and lent memory of exactly their sizes; and then the
 // party of a call that names one.
+#![tactic(auto)]
+
 ghost use Rattle.std.specs.Prelude.{◌≡◌, true, length};
 ghost use Rattle.rules.specs.Tools.{within};
 ghost use Rattle.rules.specs.Table.{Memory, lent, list_in_range, in_range, counters_size, slots_size, memory_refusal, party_refusal};
@@ -17,7 +19,7 @@ fn is_within(low: u32, high: u32, n: u32) -> bool
 }
 
 // What the list of D asks: whether each is in its range and, if so, how many counters there are.
-#[derive(Drop)]
+#[derive(Clone, Copy)]
 struct Asked {
     good: bool,
     counters: u32,

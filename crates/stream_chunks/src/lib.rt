@@ -1,5 +1,7 @@
 // What the calls that take a stream in chunks have in common: the checks before a chunk is taken, the number
 // that a stage gives back, and the laws of proofs/ by which a call's loop over the records of a chunk is proved.
+#![tactic(auto)]
+
 ghost use Rattle.std.specs.Prelude.{◌≡◌, ◌||◌, ltb, length};
 ghost use Rattle.rules.specs.Table.{lent, refuse};
 ghost use Rattle.stream_format.specs.Chunks.{chunk_refusal, stage_number};

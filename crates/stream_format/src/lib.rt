@@ -2,10 +2,11 @@
 // and laws about them (proofs/): what a byte does to a stream, what is kept of it between two chunks, and what
 // a chunk gives back. What a record says is not told here. There is no code: only the types that the calls and
 // the definitions share.
+#![tactic(auto)]
 
 // The type and the two subtypes of the records that are read; those of every other kind are stepped over. Where
 // one subtype is read, both are that one.
-#[derive(Drop)]
+#[derive(Clone, Copy)]
 pub struct Kind {
     pub number: u32,
     pub subtype: u32,
@@ -13,7 +14,7 @@ pub struct Kind {
 }
 
 // Where a stream stands between two bytes.
-#[derive(Drop)]
+#[derive(Clone, Copy)]
 pub enum Stage {
     // So many bytes of a header are read, fewer than 12, and stand in the room.
     Header { read: usize },
@@ -27,7 +28,7 @@ pub enum Stage {
 
 // What a byte completes: nothing; a record that is read, the first bytes of the room, so many; or one that is
 // stepped over.
-#[derive(Drop)]
+#[derive(Clone, Copy)]
 pub enum Event {
     Nothing,
     Record { size: usize },

@@ -1,6 +1,8 @@
 // Cuts a stream into records. Bytes are taken in runs, as many of a header or a body as the chunk has, up to the
 // next complete record; those of a record that is read are copied into the lent room, and those of any other
 // are stepped over without a look at them. Between two chunks the stage lies in three lent words.
+#![tactic(auto)]
+
 ghost use Rattle.std.specs.Prelude.{◌+◌, ◌^◌, ◌≤◌, ◌<◌, ◌≡◌, not, ◌||◌, [], ◌∷◌, eqb, length};
 ghost use Rattle.std.proofs.lemmas.List.Edits.{sets};
 ghost use Rattle.rules.specs.Tools.{within};
@@ -13,7 +15,7 @@ use message_cursors::{four_bytes, two_bytes};
 use stream_format::{Event, Kind, Stage};
 
 // Where a stream stands after some bytes of a chunk, where the next byte is, and what the last one completed.
-#[derive(Drop)]
+#[derive(Clone, Copy)]
 pub struct Next {
     pub stage: Stage,
     pub at: usize,

@@ -1,5 +1,7 @@
 // The gateway table: seven calls over lent memory. Nothing is kept between calls but what is lent.
 // No call requires anything: bad input gets its number and changes nothing.
+#![tactic(auto)]
+
 ghost use Rattle.std.specs.Prelude.{◌≡◌};
 ghost use Rattle.rules.specs.Table.{lent, left, clear, add, withdraw, change, match_vector, lookup, lookup_list, answered};
 

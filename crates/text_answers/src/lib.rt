@@ -1,5 +1,7 @@
 // Writes answers of the text program as bytes into lent memory, each from a position on, and says
 // where the next one goes. An answer is a line of at most 33 bytes, for which there must be room.
+#![tactic(auto)]
+
 ghost use Rattle.std.specs.Prelude.{◌+◌, ◌≤◌, length};
 ghost use Rattle.text_answers.specs.Texts.{decimal, update_text, lookup_text, unreadable, Put, PutWithin};
 

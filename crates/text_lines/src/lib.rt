@@ -4,6 +4,8 @@
 // Between two chunks the first bytes of the unfinished line lie in lent memory, so that no byte
 // that comes in costs a copy of those before it; how many they are goes by value. 65 are kept: a
 // line above 64 is unreadable whatever follows, so the rest of it is not needed.
+#![tactic(auto)]
+
 ghost use Rattle.std.specs.Prelude.{◌+◌, ◌≤◌, ◌≡◌, length};
 ghost use Rattle.rules.specs.Table.{lent};
 ghost use Rattle.text_lines.specs.Lines.{line_reply, going, feed, not_refused, answer_fits, roomy, answer_line, feed_chunk, finish_input, Replied, Told, Room, Lies};
@@ -13,7 +15,7 @@ use text_answers::{put_found, put_outcome, put_unreadable};
 use text_requests::{Request, read_request};
 
 // What answering a line gives back: whether it was refused, and where the next answer goes.
-#[derive(Drop)]
+#[derive(Clone, Copy)]
 pub struct Next {
     pub refused: bool,
     pub at: usize,
@@ -21,7 +23,7 @@ pub struct Next {
 
 // What a call on the stream gives back: whether it was refused, how many bytes of the unfinished
 // line are kept, and how many bytes of answers were written.
-#[derive(Drop)]
+#[derive(Clone, Copy)]
 pub struct Fed {
     pub refused: bool,
     pub count: usize,

@@ -1,5 +1,7 @@
 // The text program: the lines of standard input, answered by a small table that starts cleared.
 // What has been read is answered before more is waited for; a read or a write that fails ends it.
+#![tactic(auto)]
+
 ghost use Rattle.std.specs.Prelude.{◌≤◌, length};
 
 use libc::{STDIN_FILENO, STDOUT_FILENO};

@@ -1,10 +1,12 @@
 // Reads one line of the text program: which call it asks for, and with which numbers.
 // No line is out of range: one of any bytes that has none of the four shapes is unreadable.
+#![tactic(auto)]
+
 ghost use Rattle.std.specs.Prelude.{◌≡◌, drop};
 ghost use Rattle.text_requests.specs.Shapes.{front_digit, number_at, item, fit_shape, request};
 
 // What a line asks for.
-#[derive(Drop)]
+#[derive(Clone, Copy)]
 pub enum Request {
     Add { prefix: u32, length: u32, hop: u32 },
     Drop { prefix: u32, length: u32 },
@@ -14,14 +16,14 @@ pub enum Request {
 }
 
 // A number that stands in a line and the position after it; or none.
-#[derive(Drop)]
+#[derive(Clone, Copy)]
 enum Number {
     To { value: u32, end: usize },
     Absent,
 }
 
 // The numbers that the items of a shape have given so far.
-#[derive(Drop)]
+#[derive(Clone, Copy)]
 struct Numbers {
     pub address: u32,
     pub length: u32,
@@ -29,7 +31,7 @@ struct Numbers {
 }
 
 // What one item of a shape, or all of them, find in a line.
-#[derive(Drop)]
+#[derive(Clone, Copy)]
 enum Fit {
     // The position after it, and the numbers with its own.
     To { end: usize, numbers: Numbers },

@@ -1,4 +1,6 @@
 // An add, a withdrawal and a change whose route has passed its first checks: what is left to ask is the slots and the counters.
+#![tactic(auto)]
+
 ghost use Rattle.std.specs.Prelude.{◌≡◌, false, [], ◌≤◌};
 ghost use Rattle.rules.specs.Table.{lent, left, odd_prefix, add, withdraw, change};
 ghost use Rattle.rules.specs.Ready.{Slots};

@@ -1,4 +1,6 @@
 // The match vector: which lengths' filters claim an address.
+#![tactic(auto)]
+
 ghost use Rattle.std.specs.Prelude.{◌≡◌, true};
 ghost use Rattle.rules.specs.Table.{in_range, vector_of};
 ghost use Rattle.rules.specs.Ready.{Counters};

@@ -1,4 +1,6 @@
 // Lent lists filled with zeros, as a clear leaves them.
+#![tactic(auto)]
+
 ghost use Rattle.std.specs.Prelude.{◌≡◌, length, replicate};
 
 // Zero in every byte.

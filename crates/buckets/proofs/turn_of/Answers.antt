@@ -1,0 +1,49 @@
+-- Leading zeros pick the top bit, and that bit is taken.
+use Prim.Native.Nat.{ℕ, suc, ◌-◌, ◌^◌, ◌<◌}
+use mathlib.Core.Path.{◌≡◌}
+use native.Mathlib.Numerals.{unary_clauses}
+use native.Mathlib.Omega.{arith}
+use lib.Count.{count_leading_zeros, leading_top, leading_le}
+use Rattle.rules.proofs.Vectors.{one_bit}
+use Rattle.buckets.specs.Turns.{Highest}
+use Rattle.buckets.proofs.turn_of.Goals as goal
+
+longest_is : (v : ℕ) → (v ≡ 0 → ⊥) → v < 2 ^ 32 → Highest v (32 - count_leading_zeros 32 v)
+longest_is v claimed fits =
+    let top = leading_top 32 v (omega arith) fits in
+    let same : 32 - count_leading_zeros 32 v ≡ suc top.0 = omega arith in
+    rw same (record { low = omega arith; high = omega arith; reached = simp unary_clauses top.2; passed = top.3 })
+
+-- the length of the turn
+at : (c : goal.Start) → Highest c.args.lengths (32 - count_leading_zeros 32 c.args.lengths)
+at c = longest_is _ c.requires.fact (omega arith)
+
+pub overflow_sub-length : goal.overflow_sub-length
+overflow_sub-length c = leading_le 32 _
+
+pub prefix_of-p-requires : goal.prefix_of-p-requires
+prefix_of-p-requires c = (at c).high
+
+pub first_slot-first-requires : goal.first_slot-first-requires
+first_slot-first-requires c = record { range = c.requires.settings_value; low = (at c.before).low; high = (at c.before).high }
+
+pub overflow_sub-left : goal.overflow_sub-left
+overflow_sub-left c = (at c.before).low
+
+pub overflow_shl-left : goal.overflow_shl-left
+overflow_shl-left c = omega (arith, at c.before)
+
+pub overflow_sub-left-2 : goal.overflow_sub-left-2
+overflow_sub-left-2 c =
+    let longest = at c.before in
+    rw (one_bit _ longest.low longest.high) longest.reached
+
+pub returns : goal.returns
+returns c =
+    let longest = at c.before in
+    record {
+      longest = longest;
+      own = c.prefix_of-p.ensures;
+      from = c.first_slot-first.ensures;
+      rest = rw (one_bit _ longest.low longest.high);
+    }

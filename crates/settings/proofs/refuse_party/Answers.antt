@@ -1,0 +1,10 @@
+-- The lent lists are memory of their own lengths.
+use mathlib.Core.Path.{refl}
+use borrow.Author.Rules.{rules}
+use Rattle.settings.proofs.refuse_party.Goals as goal
+
+pub refuse_party_sizes-requires : goal.refuse_party_sizes-requires
+refuse_party_sizes-requires c = search rules
+
+pub returns : goal.returns
+returns c = c.refuse_party_sizes.ensures _ refl refl
