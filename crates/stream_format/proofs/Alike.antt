@@ -52,5 +52,6 @@ module _ {X Y : Type 0} {related : X → Y → Type 0} {one : Doing X} {other : 
   pub chunk_alike : (kind : Kind) {s : Stream X} {s' : Stream Y} → Alike related s s' → (chunk : List ℕ)
       → Alike related (chunk_taken kind one s chunk) (chunk_taken kind other s' chunk)
   unfolding chunk_taken fed
-  chunk_alike kind same [] = same
-  chunk_alike kind same (b ∷ chunk) = chunk_alike kind (byte_alike kind same b) chunk
+  chunk_alike kind {s = s} {s' = s'} same [] = same
+  chunk_alike kind {s = s} {s' = s'} same (b ∷ chunk) =
+      chunk_alike kind {s = byte_taken kind one s b} {s' = byte_taken kind other s' b} (byte_alike kind same b) chunk
