@@ -1,5 +1,5 @@
-// The gateway table for C: thirteen exported calls on numbers and lent memory. No call requires anything,
-// keeps anything or copies the memory. Questions read the slots as bytes, four to a word, the
+// The gateway table for C: thirteen calls on numbers and lent memory, which crates/gateway_c exports. No call
+// requires anything, keeps anything or copies the memory. Questions read the slots as bytes, four to a word, the
 // low byte first; the updates write them as words of the machine. What a C program may rely on is
 // proved in crates/c_promises.
 #![tactic(auto)]
@@ -24,8 +24,7 @@ use import_calls::import_chunk;
 use replay_calls::replay_chunk;
 
 // Empties the table of both parties' routes: zero in every byte and word.
-#[unsafe(no_mangle)]
-pub extern "C" fn gateway_clear(
+pub fn gateway_clear(
     k: u32,
     d: &[u8],
     e: u32,
@@ -42,8 +41,7 @@ pub extern "C" fn gateway_clear(
 }
 
 // Stores a route for a party, 0 or 1. One that it has stored keeps its slot and gets the new hop.
-#[unsafe(no_mangle)]
-pub extern "C" fn gateway_add(
+pub fn gateway_add(
     k: u32,
     d: &[u8],
     e: u32,
@@ -65,8 +63,7 @@ pub extern "C" fn gateway_add(
 }
 
 // Takes a stored route of the party's out.
-#[unsafe(no_mangle)]
-pub extern "C" fn gateway_withdraw(
+pub fn gateway_withdraw(
     k: u32,
     d: &[u8],
     e: u32,
@@ -87,8 +84,7 @@ pub extern "C" fn gateway_withdraw(
 }
 
 // Gives a stored route of the party's a new next hop.
-#[unsafe(no_mangle)]
-pub extern "C" fn gateway_change(
+pub fn gateway_change(
     k: u32,
     d: &[u8],
     e: u32,
@@ -110,8 +106,7 @@ pub extern "C" fn gateway_change(
 }
 
 // Which lengths' filters claim an address, bit L - 1 for length L: refusal·2^48 + vector.
-#[unsafe(no_mangle)]
-pub extern "C" fn gateway_match_vector(
+pub fn gateway_match_vector(
     k: u32,
     d: &[u8],
     e: u32,
@@ -131,8 +126,7 @@ pub extern "C" fn gateway_match_vector(
 
 // The longest route stored for the party that matches an address:
 // refusal·2^48 + found·2^40 + hop·2^16 + length·2^8 + probes.
-#[unsafe(no_mangle)]
-pub extern "C" fn gateway_lookup(
+pub fn gateway_lookup(
     k: u32,
     d: &[u8],
     e: u32,
@@ -153,8 +147,7 @@ pub extern "C" fn gateway_lookup(
 
 // The party's lookup of each address of a list, in its order: found as 1 or 0, hop, length and probes, four
 // words to an address. Slots, addresses and results are bytes, four to a word.
-#[unsafe(no_mangle)]
-pub extern "C" fn gateway_lookup_list(
+pub fn gateway_lookup_list(
     k: u32,
     d: &[u8],
     e: u32,
@@ -177,8 +170,7 @@ pub extern "C" fn gateway_lookup_list(
 // Lists the prefixes at which two tables differ for a party, by rising length and then rising prefix: length, prefix, and
 // what the first table and the second have there, four words to a difference. Slots and list are bytes, four to a word:
 // refusal·2^48 + count.
-#[unsafe(no_mangle)]
-pub extern "C" fn gateway_list_differences(
+pub fn gateway_list_differences(
     k: u32,
     d: &[u8],
     e: u32,
@@ -210,8 +202,7 @@ pub extern "C" fn gateway_list_differences(
 }
 
 // Applies one message of a neighbour for a party: refusal·2^48 + refused·2^12 + accepted.
-#[unsafe(no_mangle)]
-pub extern "C" fn gateway_update(
+pub fn gateway_update(
     k: u32,
     d: &[u8],
     e: u32,
@@ -232,8 +223,7 @@ pub extern "C" fn gateway_update(
 }
 
 // Writes the message that withdraws a route, into room of exactly its size.
-#[unsafe(no_mangle)]
-pub extern "C" fn gateway_write_withdrawal(prefix: u32, length: u32, room: &mut [u8]) -> u64
+pub fn gateway_write_withdrawal(prefix: u32, length: u32, room: &mut [u8]) -> u64
     ensures { ListCrossed (write_withdrawal prefix length room.old) result room.new }
 {
     refusal_part(message_writers::write_withdrawal(prefix, length, room))
@@ -241,8 +231,7 @@ pub extern "C" fn gateway_write_withdrawal(prefix: u32, length: u32, room: &mut 
 
 // Takes one chunk of a dump: adds for the party the route of each record that is complete with it, and counts. What
 // is kept of the stream between two chunks lies in three words and in room for one record.
-#[unsafe(no_mangle)]
-pub extern "C" fn gateway_import(
+pub fn gateway_import(
     k: u32,
     d: &[u8],
     e: u32,
@@ -268,8 +257,7 @@ pub extern "C" fn gateway_import(
 
 // Takes one chunk of a recorded day: applies for the party the UPDATE of each record that is complete with it, and
 // tallies the record in 23 words, which are seen, applied, accepted and refused[0] to refused[19].
-#[unsafe(no_mangle)]
-pub extern "C" fn gateway_replay(
+pub fn gateway_replay(
     k: u32,
     d: &[u8],
     e: u32,
@@ -294,8 +282,7 @@ pub extern "C" fn gateway_replay(
 }
 
 // Ends a stream of records: 17 inside a record.
-#[unsafe(no_mangle)]
-pub extern "C" fn gateway_end_stream(words: &mut [u32; 3]) -> u64
+pub fn gateway_end_stream(words: &mut [u32; 3]) -> u64
     ensures { EndCrossed (end_stream words.old) result words.new }
 {
     refusal_part(stream_records::end_stream(words))
