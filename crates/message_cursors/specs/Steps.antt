@@ -1,6 +1,6 @@
 -- What stands at a cursor, by the definitions of a message: each answer of a step, as the paper has it.
 use Rattle.std.specs.Prelude.{ℕ, Bool, cond, List, length, ltb}
-use Rattle.message_format.specs.Format.{Prefix, prefix_from, after_prefix, prefix_fits, type_of, value_from, value_size, after_attribute, attribute_fits}
+use Rattle.message_format.specs.Format.{prefix_from, after_prefix, prefix_fits, type_of, value_from, value_size, after_attribute, attribute_fits}
 use Rattle.message_cursors.specs.declared.Prefixes.{Prefixes}
 use Rattle.message_cursors.specs.declared.NextPrefix.{NextPrefix}
 use Rattle.message_cursors.specs.declared.NextPrefix.TheVariants as prefix
