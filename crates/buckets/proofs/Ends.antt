@@ -9,7 +9,7 @@ use lib.ListN.{length}
 use Rattle.rules.specs.declared.Settings.{Settings}
 use Rattle.rules.specs.declared.Place.TheVariants.{At, Absent}
 use Rattle.rules.specs.declared.Vacancy.TheVariants.{Free}
-use Rattle.rules.specs.Tools.{those, lowest}
+use Rattle.rules.specs.Tools.{those}
 use Rattle.rules.specs.Table.{in_range, prefix, slot_number, mark_word, mark_at, own, holds, free, held, vacant, found_or, down_from, bit_set, set_bits, search as searched}
 use Rattle.rules.specs.Ready.{Ready, Slots}
 use Rattle.rules.specs.Meaning.{vacancy_of, bucket_place}

@@ -22,6 +22,7 @@ pub struct Turn {
 }
 
 // The first of a party's marks.
+#[tactic(auto, unfolding(rules::specs::Table::first_mark))]
 pub fn first_mark(party: u32) -> u32
     requires { party ≤ 1 }
     ensures { result ≡ first_mark party }
@@ -64,6 +65,7 @@ pub fn first_slot(settings: Settings, p: u32, length: u32) -> usize
 }
 
 // The prefix of a slot, by its number.
+#[tactic(auto, unfolding(rules::specs::Table::prefix_at, rules::specs::Table::prefix_word, rules::specs::Table::mark_word))]
 pub fn prefix_at(slots: &[u32], slot: usize) -> u32
     requires { mark_word slot < length slots.now }
     ensures { result ≡ prefix_at slots.now slot }
@@ -72,6 +74,7 @@ pub fn prefix_at(slots: &[u32], slot: usize) -> u32
 }
 
 // The mark of a slot, by its number.
+#[tactic(auto, unfolding(rules::specs::Table::mark_at, rules::specs::Table::mark_word))]
 pub fn mark_at(slots: &[u32], slot: usize) -> u32
     requires { mark_word slot < length slots.now }
     ensures { result ≡ mark_at slots.now slot }
@@ -99,6 +102,7 @@ pub fn put_default(settings: Settings, slots: &mut [u32], party: u32, mark: u32)
 }
 
 // Gives a slot, by its number, a prefix and a mark.
+#[tactic(auto, unfolding(rules::specs::Table::with_slot, rules::specs::Table::prefix_word, rules::specs::Table::mark_word))]
 pub fn put_slot(slots: &mut [u32], slot: usize, p: u32, mark: u32)
     requires { mark_word slot < length slots.old }
     ensures { slots.new ≡ with_slot slots.old slot p mark }
@@ -120,7 +124,7 @@ fn holds_at(slots: &[u32], party: u32, slot: usize, p: u32) -> bool
 // that prefix's bucket, and the lengths that are left after it.
 pub fn turn_of(settings: Settings, address: u32, lengths: u32) -> Turn
     requires settings_value { in_range settings ≡ true }
-    requires fact { lengths ≡ 0 → ⊥ }
+    requires some_left { lengths ≡ 0 → ⊥ }
     ensures { Turned settings address lengths result }
 {
     let length = 32 - u32::leading_zeros(lengths);

@@ -2,7 +2,6 @@
 use mathlib.Core.Path.{sym}
 use native.Mathlib.Nat.{add-zero}
 use native.Mathlib.Omega.{arith}
-use borrow.Author.Rules.{rules}
 use Rattle.rules.specs.Table.{slot_number}
 use Rattle.rules.proofs.Placing.{ranges}
 use Rattle.buckets.proofs.Slots.{before_whole, bucket_small, first_small}

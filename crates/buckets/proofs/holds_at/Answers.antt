@@ -1,5 +1,4 @@
 -- The prefix is read before the mark: `same_prefix` and `other_prefix`.
-use borrow.Author.Rules.{rules}
 use Rattle.buckets.proofs.Slots.{same_prefix, other_prefix}
 use Rattle.buckets.proofs.holds_at.Goals as goal
 

@@ -1,6 +1,5 @@
 -- The two tests of the code are the two of `within`.
 use native.Mathlib.Omega.{arith}
-use borrow.Author.Rules.{rules}
 use borrow.Author.Tests.{le-leb, lt-leb}
 use Rattle.rules.specs.Tools.{within}
 use Rattle.rules.specs.Table.{first_mark, own}

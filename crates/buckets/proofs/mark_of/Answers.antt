@@ -1,6 +1,5 @@
 -- The code computes `mark_of`.
 use native.Mathlib.Omega.{arith}
-use borrow.Author.Rules.{rules}
 use Rattle.rules.specs.Table.{first_mark, mark_of}
 use Rattle.buckets.proofs.mark_of.Goals as goal
 

@@ -1,10 +1,6 @@
 -- Two invariants carry it, `Between` of the lengths and `Below` of the slots, on the words as they are lent.
-use Prim.Native.Nat.{◌+◌, ◌-◌, ◌<◌}
-use native.Mathlib.Omega.{arith}
-use lib.ListN.{length}
-use Rattle.rules.specs.Table.{mark_word}
-use Rattle.rules.proofs.Placing.{ranges}
-use Rattle.buckets.proofs.Searching.{Between, Below, begun, ended, opened, inside, passed, next, here, less}
+use Prim.Native.Nat.{◌-◌}
+use Rattle.buckets.proofs.Searching.{Between, Below}
 use Rattle.buckets.proofs.search_buckets.Given as goal
 
 abbrev pub invariant-loop-s : goal.invariant-loop-s

@@ -14,33 +14,29 @@ longest_is v claimed fits =
     let same : 32 - count_leading_zeros 32 v ≡ suc top.0 = omega arith in
     rw same (record { low = omega arith; high = omega arith; reached = simp unary_clauses top.2; passed = top.3 })
 
--- the length of the turn
-at : (c : goal.Start) → Highest c.args.lengths (32 - count_leading_zeros 32 c.args.lengths)
-at c = longest_is _ c.requires.fact (omega arith)
-
 pub overflow_sub-length : goal.overflow_sub-length
 overflow_sub-length c = leading_le 32 _
 
 pub prefix_of-p-requires : goal.prefix_of-p-requires
-prefix_of-p-requires c = (at c).high
+prefix_of-p-requires c = (longest_is c.args.lengths c.requires.some_left (omega arith)).high
 
 pub first_slot-first-requires : goal.first_slot-first-requires
-first_slot-first-requires c = record { range = c.requires.settings_value; low = (at c.before).low; high = (at c.before).high }
+first_slot-first-requires c = record { range = c.requires.settings_value; low = (longest_is c.args.lengths c.requires.some_left (omega arith)).low; high = (longest_is c.args.lengths c.requires.some_left (omega arith)).high }
 
 pub overflow_sub-left : goal.overflow_sub-left
-overflow_sub-left c = (at c.before).low
+overflow_sub-left c = (longest_is c.args.lengths c.requires.some_left (omega arith)).low
 
 pub overflow_shl-left : goal.overflow_shl-left
-overflow_shl-left c = omega (arith, at c.before)
+overflow_shl-left c = omega (arith, longest_is c.args.lengths c.requires.some_left (omega arith))
 
 pub overflow_sub-left-2 : goal.overflow_sub-left-2
 overflow_sub-left-2 c =
-    let longest = at c.before in
+    let longest = longest_is c.args.lengths c.requires.some_left (omega arith) in
     rw (one_bit _ longest.low longest.high) longest.reached
 
 pub returns : goal.returns
 returns c =
-    let longest = at c.before in
+    let longest = longest_is c.args.lengths c.requires.some_left (omega arith) in
     record {
       longest = longest;
       own = c.prefix_of-p.ensures;
