@@ -2,10 +2,10 @@
 // lent memory is damaged, copied and shown.
 #![tactic(auto)]
 
-ghost use Rattle.io.specs.Counts.{IsPrefixLen};
+ghost use Rattle.std.specs.Prelude.{◌≡◌, ◌≤◌, length, take};
 
-use libc::STDOUT_FILENO;
 use rules::Settings;
+use std::io;
 
 // A case is a number in hex whose first digit says what is done. Most have a prefix, a length and a hop
 // after it; what stands there for the rest is said here. The hop's first digit has twice the party in it.
@@ -68,25 +68,22 @@ pub fn party_of(case: u64) -> u32 {
 }
 
 // Begins the line of a case.
-pub fn begin(case: u64) {
-    io::print_hex(STDOUT_FILENO, case, 16);
-    io::write_all(STDOUT_FILENO, b":");
+pub fn begin(rt: &impl Print, case: u64) -> io::Result<()> {
+    print!(rt; "{case:016x}:")
 }
 
-pub fn end() {
-    io::write_all(STDOUT_FILENO, b"\n");
+pub fn end(rt: &impl Print) -> io::Result<()> {
+    println!(rt)
 }
 
 // Writes a number in decimal.
-pub fn number(n: u32) {
-    io::write_all(STDOUT_FILENO, b" ");
-    io::print_decimal(STDOUT_FILENO, n as u64);
+pub fn number(rt: &impl Print, n: u32) -> io::Result<()> {
+    print!(rt; " {n}")
 }
 
 // Writes a number in hex: a sum, a count, or what C gets, whose parts are then whole digits.
-pub fn digits(n: u64) {
-    io::write_all(STDOUT_FILENO, b" ");
-    io::print_hex(STDOUT_FILENO, n, 1);
+pub fn digits(rt: &impl Print, n: u64) -> io::Result<()> {
+    print!(rt; " {n:x}")
 }
 
 // Before the first case no settings are set,
@@ -129,13 +126,15 @@ pub fn small(k: u32, s: u32) -> Settings {
 
 // As many bytes as are lent, if there are so many.
 pub fn bytes_lent(n: usize, bytes: &[u8]) -> usize
-    ensures { IsPrefixLen result bytes.now }
+    ensures in_bounds { result ≤ length bytes.now }
+    ensures front { result ≡ length (take result bytes.now) }
 {
     if n < bytes.len() { n } else { bytes.len() }
 }
 
 pub fn words_lent(n: usize, words: &[u32]) -> usize
-    ensures { IsPrefixLen result words.now }
+    ensures in_bounds { result ≤ length words.now }
+    ensures front { result ≡ length (take result words.now) }
 {
     if n < words.len() { n } else { words.len() }
 }
@@ -249,7 +248,7 @@ pub fn copy_words(words: &[u32], bytes: &mut [u8]) {
 }
 
 // A sum of bytes in which their order counts.
-fn sum_of_bytes(bytes: &[u8]) {
+fn sum_of_bytes(rt: &impl Print, bytes: &[u8]) -> io::Result<()> {
     let many = bytes.len();
     let mut sum: u64 = 0;
     let mut i = 0;
@@ -257,10 +256,10 @@ fn sum_of_bytes(bytes: &[u8]) {
         sum = sum % 0x100_0000_0000 * 31 + bytes[i] as u64;
         i += 1;
     }
-    digits(sum % 0x100_0000_0000);
+    digits(rt, sum % 0x100_0000_0000)
 }
 
-fn sum_of_words(words: &[u32]) {
+fn sum_of_words(rt: &impl Print, words: &[u32]) -> io::Result<()> {
     let many = words.len();
     let mut sum: u64 = 0;
     let mut i = 0;
@@ -268,39 +267,40 @@ fn sum_of_words(words: &[u32]) {
         sum = sum % 0x100_0000_0000 * 31 + words[i] as u64;
         i += 1;
     }
-    digits(sum % 0x100_0000_0000);
+    digits(rt, sum % 0x100_0000_0000)
 }
 
 // Writes two sums, of which a byte or a word that is otherwise changes one.
-pub fn sums(bytes: &[u8], words: &[u32]) {
-    sum_of_bytes(bytes);
-    sum_of_words(words);
+pub fn sums(rt: &impl Print, bytes: &[u8], words: &[u32]) -> io::Result<()> {
+    sum_of_bytes(rt, bytes)?;
+    sum_of_words(rt, words)
 }
 
 // Writes sums of a table, and of the front of a stream's room.
-pub fn show(counters: &[u8], slots: &[u32], room: &[u8]) {
+pub fn show(rt: &impl Print, counters: &[u8], slots: &[u32], room: &[u8]) -> io::Result<()> {
     let many = bytes_lent(256, room);
-    sums(counters, slots);
-    sum_of_bytes(&room[..many]);
+    sums(rt, counters, slots)?;
+    sum_of_bytes(rt, &room[..many])
 }
 
-fn word(n: u32) {
-    digits(n as u64);
+fn word(rt: &impl Print, n: u32) -> io::Result<()> {
+    digits(rt, n as u64)
 }
 
-fn list(words: &[u32]) {
+fn list(rt: &impl Print, words: &[u32]) -> io::Result<()> {
     let mut i = 0;
     while i < words.len() {
-        word(words[i]);
+        word(rt, words[i])?;
         i += 1;
     }
+    Ok(())
 }
 
 // Writes each number of two lists, and ends the line.
-pub fn finish(counts: &[u32], words: &[u32]) {
-    list(counts);
-    list(words);
-    end();
+pub fn finish(rt: &impl Print, counts: &[u32], words: &[u32]) -> io::Result<()> {
+    list(rt, counts)?;
+    list(rt, words)?;
+    end(rt)
 }
 
 // Puts bytes at the front of others, as far as there is room.
