@@ -47,6 +47,7 @@ WARNINGS = -std=c99 -Wall -Wextra -Wpedantic
 NATIVE_CC = gcc
 
 ARCHIVE = target/staticlib/libgateway.a
+TEXT_PROGRAM = target/bin/text_program
 
 help:
 	@sed -n '/^[^#]/q; s/^# \{0,1\}//p' Makefile
@@ -54,14 +55,23 @@ help:
 test:
 	@tests/all
 
-run:
-	@$(RT) check text_program >&2
-	@tests/start target/bin/text_program
+run: $(TEXT_PROGRAM)
+	@tests/start $(TEXT_PROGRAM)
 
 lib: $(ARCHIVE)
 
-$(ARCHIVE): $(shell find crates crates.txt -type f)
-	@$(RT) staticlib gateway
+SOURCES = crates.txt $(shell find crates -type f -not -path '*/out/*')
+
+$(ARCHIVE): $(SOURCES)
+	@$(RT) --in gateway_c lib
+	@mkdir -p $(@D)
+	@cp crates/gateway_c/out/libgateway_c.a $@
+
+# rt run builds it on the way; what it answers to no input is not looked at.
+$(TEXT_PROGRAM): $(SOURCES)
+	@$(RT) --in text_program run >&2
+	@mkdir -p $(@D)
+	@cp crates/text_program/out/text_program $@
 
 EXAMPLES = target/forward target/neighbour target/fill target/replay target/shared target/differences
 
@@ -152,8 +162,7 @@ edits: target/second
 
 # With BEFORE the library is measured beside that of an earlier commit, and else beside plain C.
 ifeq ($(BEFORE),)
-bench: target/bench target/second
-	@$(RT) check text_program >&2
+bench: target/bench target/second $(TEXT_PROGRAM)
 	@[ '$(MEASURED)' = '$(ARCHIVE)' ] || echo 'the library is measured as compiled for this machine, the text program under an emulator'
 	@target/bench
 	@echo
@@ -177,4 +186,4 @@ target/bench: bench/bench.c bench/comparisons.c bench/comparisons.h bench/table.
 	    bench/measure.c $(MEASURED)
 
 clean:
-	rm -rf target
+	rm -rf target crates/*/out
