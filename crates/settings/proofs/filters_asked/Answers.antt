@@ -1,8 +1,8 @@
 -- The list is read from its front: what was read is good so far, and its powers are summed.
-use Prim.Native.Nat.{ℕ, ◌+◌, ◌-◌, ◌*◌, ◌%◌, ◌^◌, ◌≤◌, ◌<◌}
+use Prim.Native.Nat.{ℕ, ◌+◌, ◌*◌, ◌%◌, ◌^◌, ◌≤◌, ◌<◌}
 use mathlib.Core.Path.{◌≡◌, refl, sym, ap, ◌∙◌}
 use mathlib.Core.Bool.{Bool, true, ◌&&◌, and_assoc}
-use mathlib.Core.List.{List, [], ◌∷◌, map}
+use mathlib.Core.List.{List, [], ◌∷◌}
 use native.Mathlib.Nat.{mod-eq_of_lt, mod-lt}
 use native.Mathlib.Numerals.{add-one}
 use native.Mathlib.Omega.{arith}
@@ -66,26 +66,26 @@ pub bounds-settings-i : goal.bounds-settings-i
 bounds-settings-i c = omega (arith, c.loop-i-test.true)
 
 pub overflow_cast-counters : goal.overflow_cast-counters
-overflow_cast-counters c = record { fits = omega (arith, low_lt (get_or c.args.t1.d c.loop-i.i 0)) }
+overflow_cast-counters c = record { fits = omega (arith, low_lt (get_or c.args.settings.d c.loop-i.i 0)) }
 
 pub overflow_shl-counters : goal.overflow_shl-counters
-overflow_shl-counters c = omega (arith, low_lt (get_or c.args.t1.d c.loop-i.i 0))
+overflow_shl-counters c = omega (arith, low_lt (get_or c.args.settings.d c.loop-i.i 0))
 
 -- an array has its count
-count : (c : goal.After-d-1) → length c.args.t1.d ≡ 32
+count : (c : goal.After-d-1) → length c.args.settings.d ≡ 32
 count c = search rules
 
 read : (c : goal.After-d-1) →
     let at = c.loop-i in
-    let d = c.args.t1.d in
+    let d = c.args.settings.d in
     let D = get_or d at.i 0 in
     SoFar d (at.good && leb 4 D && leb D 11) (at.counters + power D) (at.i + 1)
 read c =
     let at = c.loop-i in
-    one_read c.args.t1.d at.good at.counters at.i (count c) at.invariant (omega (arith, c.loop-i-test.true))
+    one_read c.args.settings.d at.good at.counters at.i (count c) at.invariant (omega (arith, c.loop-i-test.true))
 
 pub overflow_add-counters : goal.overflow_add-counters
-overflow_add-counters c = record { fits = omega (arith, (read c).ranges, c.loop-i-test.true) }
+overflow_add-counters c = record { fits = omega (arith, (read c).fits, c.loop-i-test.true) }
 
 pub overflow_step-i : goal.overflow_step-i
 overflow_step-i c = record { fits = omega (arith, c.loop-i-test.true) }
@@ -99,11 +99,13 @@ loop-i-preserved c = read c
 pub returns : goal.returns
 unfolding list_in_range
 returns c =
-    let d = c.args.t1.d in
+    let d = c.args.settings.d in
     let at = c.loop-i in
     let count : length d ≡ 32 = search rules in
     let long : 32 ≤ at.i = c.loop-i-test.false in
-    let good : at.good ≡ all (within 4 11) d = at.invariant.each ∙ ap (all (within 4 11)) (take_all at.i d (omega arith)) in (
-      good ∙ rw (eq-eqb _ _ count),
-      (λ in_range. at.invariant.sum ∙ ap filters_size (take_all at.i (shifts d) (omega (arith, length-map d (λ D. D % 16))) ∙ kept d (both (eqb (length d) 32) _ in_range).1) ∙ sym (counters_listed _)),
-    )
+    let good : at.good ≡ all (within 4 11) d = at.invariant.each ∙ ap (all (within 4 11)) (take_all at.i d (omega arith)) in
+    record {
+      good_value = good ∙ rw (eq-eqb _ _ count);
+      counters_value =
+          (λ in_range. at.invariant.sum ∙ ap filters_size (take_all at.i (shifts d) (omega (arith, length-map d (λ D. D % 16))) ∙ kept d (both (eqb (length d) 32) _ in_range).1) ∙ sym (counters_listed _));
+    }
