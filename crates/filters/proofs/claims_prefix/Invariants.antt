@@ -1,17 +1,16 @@
 -- While no counter was zero, the claim hangs on the places that are left.
-use Rattle.std.proofs.Common.{◌≡◌, ℕ, ◌-◌, ◌*◌, ◌<◌, Bool, true, ltb, List, get_or, sym, refl, ap, ◌∙◌, pos_of_ne-zero, arith, rules, lt-ltb}
+use Rattle.std.proofs.Common.{◌≡◌, ℕ, ◌-◌, Bool, true, ltb, List, get_or}
 use Rattle.rules.specs.Tools.{all}
-use Rattle.rules.specs.Table.{wrap, claims}
-use Rattle.rules.proofs.Placing.{ranges}
-use Rattle.filters.proofs.Hashing.{places_left, first_left, one_left, none_left}
+use Rattle.rules.specs.Table.{claims}
+use Rattle.filters.proofs.Hashing.{places_left}
 use Rattle.filters.proofs.claims_prefix.Given as goal
 
 -- the counters at these places are nonzero
-pub nonzero : (counters places : List ℕ) → Bool
+unfoldable pub nonzero : (counters places : List ℕ) → Bool
 nonzero counters places = all (λ i. ltb 0 (get_or counters i 0)) places
 
 abbrev pub invariant-loop : goal.invariant-loop
-invariant-loop l = 
+invariant-loop l =
     (l.claimed ≡ true) × (claims l.settings l.counters l.p l.length ≡ nonzero l.counters (places_left l.settings l.length l.growth l.counter l.g))
 
 abbrev pub decreases-loop : goal.decreases-loop

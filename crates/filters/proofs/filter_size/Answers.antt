@@ -1,5 +1,5 @@
 -- A shift up is a power, and so few bits lose none of it.
-use Rattle.std.proofs.Common.{◌^◌, ◌∙◌, one-mul, arith, shl_exact, rules}
+use Rattle.std.proofs.Common.{◌^◌, ◌∙◌, one-mul, arith, shl_exact}
 use Rattle.filters.proofs.filter_size.Goals as goal
 
 pub returns : goal.returns

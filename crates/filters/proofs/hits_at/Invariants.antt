@@ -1,13 +1,11 @@
 -- The hits are those found so far and those among the places that are left.
-use Rattle.std.proofs.Common.{◌≡◌, ℕ, ◌+◌, ◌-◌, ◌≤◌, List, take, sym, ap, ◌∙◌, ⊎_elim, add-zero, add_assoc, zero-add, arith, rules}
+use Rattle.std.proofs.Common.{◌≡◌, ◌+◌, ◌-◌, ◌≤◌, take}
 use lib.Seq.{slice}
 use Rattle.rules.specs.Tools.{count}
-use Rattle.filters.specs.Visits.{k_places}
-use Rattle.filters.proofs.Visits.{one_visited, all_visited, count_same, count_other}
 use Rattle.filters.proofs.hits_at.Given as goal
 
 abbrev pub invariant-loop-i : goal.invariant-loop-i
-invariant-loop-i l = 
+invariant-loop-i l =
     (l.hits ≤ l.i) × (l.i ≤ l.i-end) × (count l.place (take l.i-end l.places) ≡ l.hits + count l.place (slice l.i l.i-end l.places))
 
 abbrev pub decreases-loop-i : goal.decreases-loop-i

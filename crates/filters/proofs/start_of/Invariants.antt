@@ -1,8 +1,6 @@
 -- The filters of the shorter lengths are passed one by one: `filter_next`.
-use Rattle.std.proofs.Common.{◌≡◌, ◌+◌, ◌-◌, ◌*◌, ◌%◌, ◌^◌, ◌≤◌, get_or, sym, ap, ◌∙◌, one-mul, add-one, arith, shl_exact, rules}
-use Rattle.rules.specs.Table.{filter_start, filter_bits}
-use Rattle.rules.specs.Ready.{Ready}
-use Rattle.rules.proofs.Placing.{bits_listed, filter_bits_high, filter_first, filter_next, filter_fits, counters_few}
+use Rattle.std.proofs.Common.{◌≡◌, ◌+◌, ◌-◌, ◌≤◌}
+use Rattle.rules.specs.Table.{filter_start}
 use Rattle.filters.proofs.start_of.Given as goal
 
 abbrev pub invariant-loop-i : goal.invariant-loop-i

@@ -1,7 +1,6 @@
 -- Each counter can take the hits that are left to it, and takes one: `can_take` and `one_taken`.
-use Rattle.std.proofs.Common.{◌-◌, ◌<◌, length, get_or, refl, arith, rules}
-use Rattle.filters.specs.Visits.{k_places}
-use Rattle.filters.proofs.Visits.{Stepping, can_take, one_taken, all_taken}
+use Rattle.std.proofs.Common.{◌-◌}
+use Rattle.filters.proofs.Visits.{Stepping}
 use Rattle.filters.proofs.step_each.Given as goal
 
 abbrev pub invariant-loop-i : goal.invariant-loop-i
