@@ -9,7 +9,7 @@ use lib.Dec.{eqb, ltb}
 use borrow.Author.Tests.{eq-eqb, ne_eqb, lt-ltb, le-ltb}
 use Rattle.rules.specs.declared.Settings.{Settings}
 use Rattle.rules.specs.Tools.{all, count}
-use Rattle.rules.specs.Table.{prefix, positions, bucket, Memory}
+use Rattle.rules.specs.Table.{positions, bucket, Memory}
 use Rattle.rules.specs.Ready.{Ready}
 use Rattle.rules.proofs.Members.{any_none}
 use Rattle.rules.specs.Calls.{Call, Add, word_sized, each}

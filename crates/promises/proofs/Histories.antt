@@ -16,7 +16,7 @@ use Rattle.rules.proofs.Placing.{words_fit, default_fits}
 use Rattle.rules.specs.Calls.{Call, Clear, Add, Withdraw, Change, word_sized, all_word_sized, act, Run, each, run}
 use Rattle.rules.proofs.Calls.{then, each_append, run_append}
 use Rattle.promises.specs.History.{Route, written, noted, on_paper, stored_by, SingleCalls, History, Ran, Stop, Then}
-use Rattle.promises.specs.Demands.{sum, number, landings, paper}
+use Rattle.promises.specs.Demands.{sum, number, landings, number_given, paper}
 use Rattle.promises.proofs.Sums.{by_cases}
 use Rattle.promises.proofs.Below.{none_below_weighs}
 use Rattle.promises.proofs.Slots.{slot_weight, bucket_weight}
@@ -89,18 +89,18 @@ pub record Together (t : Settings) (routes : List Route) (m : Memory) (calls : L
 pub kept_run : {t : Settings} {routes : List Route} {m : Memory} → Kept t routes m → (calls : List Call) → all_word_sized calls ≡ true
     → Together t routes m calls
 unfolding run paper each all_word_sized
-kept_run kept [] sized = record { answers = refl; kept = kept }
-kept_run kept (call ∷ calls) sized =
-    let parts = both (word_sized call) (all_word_sized calls) sized in
+kept_run kept [] words = record { answers = refl; kept = kept }
+kept_run {t = t} {routes = routes} {m = m} kept (call ∷ calls) words =
+    let parts = both (word_sized call) (all_word_sized calls) words in
     let given = number_by_routes kept call parts.0 in
-    let rest = kept_run (rw given at (kept_next kept call parts.0)) calls parts.1 in
+    let rest = kept_run {t = t} {routes = noted call (number_given t routes call) routes} {m = (act t call m).memory} (rw given at (kept_next kept call parts.0)) calls parts.1 in
     record { answers = ap₂ ◌∷◌ given rest.answers; kept = rest.kept }
 
 -- what is noted of the paper's own answers is what the paper has
 paper_noted : (t : Settings) (routes : List Route) (calls : List Call) → on_paper routes calls (paper t routes calls).answers ≡ (paper t routes calls).last
 unfolding on_paper paper each
 paper_noted t routes [] = refl
-paper_noted t routes (call ∷ calls) = paper_noted t _ calls
+paper_noted t routes (call ∷ calls) = paper_noted t (noted call (number_given t routes call) routes) calls
 
 kept_clear : (t : Settings) (before : Memory) → (act t Clear before).refusal ≡ 0 → Kept t [] (act t Clear before).memory
 unfolding act clear unless_refused

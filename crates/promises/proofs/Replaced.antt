@@ -12,7 +12,7 @@ use lib.ListN.{length}
 use borrow.Author.Tests.{eqb-true}
 use Rattle.rules.specs.declared.Settings.{Settings}
 use Rattle.rules.specs.Tools.{all, any, those}
-use Rattle.rules.specs.Table.{prefix, positions, Memory, stored, lookup, match_vector, bits_where, down_from}
+use Rattle.rules.specs.Table.{prefix, positions, Memory, lookup, match_vector, bits_where, down_from}
 use Rattle.rules.proofs.Updates.{add_is_change}
 use Rattle.rules.specs.Calls.{Call, Add, Change, act, word_sized}
 use Rattle.promises.specs.History.{Route, of_party, routes_of, about, route, with_hop, written, noted}

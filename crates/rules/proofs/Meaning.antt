@@ -8,9 +8,8 @@ use lib.ListN.{set}
 use borrow.Author.Tests.{eq-eqb, ne_eqb, le-ltb}
 use Rattle.rules.specs.declared.Settings.{Settings}
 use Rattle.rules.specs.declared.Place.{Place}
-use Rattle.rules.specs.declared.Place.TheVariants.{At, Absent}
-use Rattle.rules.specs.declared.Vacancy.{Vacancy}
-use Rattle.rules.specs.Table.{Memory, lent, left, default_word, default_mark, mark_of, own, held, vacant, is_some, stored, refuse, from_1, needs_slot, full, passes_15, runs_short, unless_refused, with_default, with_found, counter_places, step_each, add_refusal, withdraw_refusal, change_refusal, added, withdrawn, changed, add, withdraw, change, found_or}
+use Rattle.rules.specs.declared.Place.TheVariants.{Absent}
+use Rattle.rules.specs.Table.{lent, left, default_word, default_mark, mark_of, own, held, vacant, is_some, stored, refuse, from_1, needs_slot, full, passes_15, runs_short, unless_refused, with_default, with_found, counter_places, step_each, add_refusal, withdraw_refusal, change_refusal, added, withdrawn, changed, add, withdraw, change, found_or}
 use Rattle.rules.specs.Meaning.{vacancy_of, bucket_place, place_added, place_withdrawn, place_changed, default_changed}
 use Rattle.rules.proofs.Refusals.{RouteFitted, HopFitted, AddChecked, route_fits, checks_fit}
 

@@ -1,16 +1,16 @@
 -- What each update leaves past its checks, and how it ends at its first ones.
 use Prim.Native.Nat.{ℕ, ◌+◌, ◌-◌}
 use mathlib.Core.Path.{◌≡◌, refl, sym, ap, ◌∙◌}
-use mathlib.Core.Bool.{Bool, true, false, cond, not}
+use mathlib.Core.Bool.{Bool, true, false, cond}
 use mathlib.Core.List.{List}
-use mathlib.Core.Option.{some, none}
+use mathlib.Core.Option.{some}
 use native.Mathlib.Omega.{arith}
 use lib.Dec.{ltb, eqb}
 use lib.ListN.{set}
 use lib.Seq.{set-get_or}
-use borrow.Author.Tests.{eqb-true, eq-eqb, ne_eqb, le-ltb}
+use borrow.Author.Tests.{eqb-true, eq-eqb, ne_eqb}
 use Rattle.rules.specs.declared.Settings.{Settings}
-use Rattle.rules.specs.Table.{Memory, lent, left, default_word, prefix_word, mark_word, mark_of, slot_number, mark_at, prefix_at, default_mark, own, holds, held, vacant, is_some, stored, refuse, from_1, needs_slot, full, passes_15, runs_short, odd_prefix, party_refusal, add_checks, route_refusal, unless_refused, with_slot, with_default, with_found, counter_places, step_each, add_refusal, withdraw_refusal, change_refusal, added, withdrawn, changed, add, withdraw, change}
+use Rattle.rules.specs.Table.{Memory, lent, left, default_word, prefix_word, mark_word, mark_of, slot_number, mark_at, prefix_at, own, holds, held, vacant, is_some, stored, refuse, from_1, needs_slot, odd_prefix, party_refusal, add_checks, route_refusal, with_slot, with_default, with_found, counter_places, step_each, add_refusal, withdraw_refusal, change_refusal, added, withdrawn, changed, add, withdraw, change}
 use Rattle.rules.proofs.Members.{both}
 use Rattle.rules.proofs.Lowest.{some_lowest}
 use Rattle.rules.proofs.Refusals.{RouteFitted, route_fits, route_passing, hop_passing, add_passing, stopped, refused_by}
