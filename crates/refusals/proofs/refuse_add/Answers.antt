@@ -2,12 +2,10 @@
 use Prim.Native.Nat.{ℕ}
 use mathlib.Core.Path.{◌≡◌, ◌∙◌, sym}
 use lib.Dec.{ltb}
-use borrow.Author.Rules.{rules}
 use Rattle.rules.specs.declared.Settings.{Settings}
 use Rattle.rules.specs.Table.{Memory, refuse, odd_prefix, party_refusal, add_checks, route_refusal}
 use Rattle.rules.proofs.Refusals.{route_passing, stopped, let_by}
-use Rattle.refusals.proofs.refuse_add.Statement.{statement}
-use Rattle.refusals.proofs.refuse_add.Tie as tie
+use Rattle.refusals.proofs.refuse_add.Goals as goal
 
 -- an add whose party and route were given this number by 1, 2, 15, 3 and 4
 module _ (t : Settings) (m : Memory) (party p L hop : ℕ) {given : ℕ} (e : given ≡ route_refusal t m party p L 0) where
@@ -19,27 +17,19 @@ module _ (t : Settings) (m : Memory) (party p L hop : ℕ) {given : ℕ} (e : gi
   unfolding route_refusal
   goes_on good = let_by (route_passing t m party p L) e good _
 
-returns : tie.Need-returns
-returns c = stops _ _ _ _ _ c.before.before.before.before.args.hop c.before.refuse-route.ensures c.if1.true
+pub returns-then-route-ne0 : goal.returns-then-route-ne0
+returns-then-route-ne0 c = stops _ _ _ _ _ c.args.hop c.refuse_route-route.ensures c.if-route-ne0.true
 
-returns-2 : tie.Need-returns-2
+pub returns-then-is_odd : goal.returns-then-is_odd
 unfolding refuse
-returns-2 c =
-    let d = c.before.before in
+returns-then-is_odd c =
     sym
-    (goes_on _ _ _ _ _ d.before.before.before.before.args.hop d.before.refuse-route.ensures d.if1.false
-    ∙ rw (sym c.before.is_odd.ensures ∙ c.if2.true))
+    (goes_on _ _ _ _ _ c.args.hop c.refuse_route-route.ensures c.if-route-ne0.false
+    ∙ rw (sym c.is_odd.ensures ∙ c.if-is_odd.true))
 
-returns-3 : tie.Need-returns-3
+pub returns : goal.returns
 unfolding refuse
-returns-3 c =
-    let asked = c.before.before in
-    let d = asked.before in
+returns c =
     sym
-    (goes_on _ _ _ _ _ d.before.before.before.before.args.hop d.before.refuse-route.ensures d.if1.false
-    ∙ rw (sym asked.is_odd.ensures ∙ c.before.if2.false) (sym c.refuse-high.ensures))
-
-pub refuse_add_spec : {M : Type 1} → statement M
-refuse_add_spec =
-    tie.close
-    (tie.spec (λ c κs. search rules) returns (λ c κs. search rules) returns-2 (λ c κs. search rules) returns-3)
+    (goes_on _ _ _ _ _ c.args.hop c.refuse_route-route.ensures c.if-route-ne0.false
+    ∙ rw (sym c.is_odd.ensures ∙ c.if-is_odd.false) (sym c.refuse_high.ensures))
