@@ -46,6 +46,7 @@ pub fn answer_default(party: u32, mark: u32, probes: u32) -> Answer
 }
 
 // A refusal, with zero elsewhere.
+#[tactic(auto, unfolding(rules::specs::Table::refused))]
 pub fn answer_refused(refusal: u32) -> Answer
     ensures { result ≡ refused refusal }
 {
@@ -59,6 +60,7 @@ pub fn answer_refused(refusal: u32) -> Answer
 }
 
 // Found, as 1 or 0.
+#[tactic(auto, unfolding(rules::specs::Table::one_if))]
 pub fn one_if(found: bool) -> u32
     ensures upper_bound { result ≤ 1 }
     ensures value { result ≡ one_if found }
