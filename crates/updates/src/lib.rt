@@ -37,7 +37,7 @@ pub fn add_checked(
 ) -> u32
     requires checked { Checked settings counters.old slots.old party p length }
     requires hop_bound { hop ≤ 65535 }
-    requires length_value { odd_prefix p length ≡ false }
+    requires not_odd { odd_prefix p length ≡ false }
     ensures { add settings (lent counters.old slots.old) party p length hop ≡ left result counters.new slots.new }
 {
     let mark = mark_of(party, hop);
