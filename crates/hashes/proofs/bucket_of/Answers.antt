@@ -1,7 +1,6 @@
 -- The bucket is the product's top bits, by what the two callees ensure.
 use mathlib.Core.Path.{◌∙◌, ap}
 use Prim.Native.Nat.{ℕ, ◌-◌, ◌/◌, ◌^◌}
-use borrow.Author.Rules.{rules}
 use Rattle.rules.specs.Table.{bucket}
 use Rattle.hashes.proofs.bucket_of.Goals as goal
 

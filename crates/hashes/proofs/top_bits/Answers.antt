@@ -3,7 +3,6 @@ use Prim.Native.Nat.{ℕ, ◌+◌, ◌-◌, ◌*◌, ◌/◌, ◌^◌}
 use mathlib.Core.Path.{◌≡◌, ap, ◌∙◌, sym}
 use native.Mathlib.Omega.{arith}
 use lib.Pow.{shl_exact, shl-shr, shr-shr}
-use borrow.Author.Rules.{rules}
 use Rattle.hashes.proofs.top_bits.Goals as goal
 
 pub returns : goal.returns

@@ -1,6 +1,5 @@
 -- Each half of the code's test is one of `odd_prefix`.
 use mathlib.Core.Path.{◌∙◌, sym}
-use borrow.Author.Rules.{rules}
 use Rattle.rules.specs.Table.{odd_prefix}
 use Rattle.prefixes.proofs.is_odd.Goals as goal
 

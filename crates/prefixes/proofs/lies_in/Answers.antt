@@ -1,5 +1,4 @@
 -- The two tests of the code are the two of `lies_in`.
-use borrow.Author.Rules.{rules}
 use borrow.Author.Tests.{le-leb, lt-leb}
 use Rattle.rules.specs.Table.{lies_in}
 use Rattle.prefixes.proofs.lies_in.Goals as goal

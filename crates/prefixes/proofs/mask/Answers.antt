@@ -5,7 +5,6 @@ use Prim.Native.Nat.{ℕ, ◌+◌, ◌-◌, ◌*◌, ◌%◌, ◌^◌, ◌≤◌
 use native.Mathlib.Omega.{arith}
 use lib.Arith.{digits_mod}
 use lib.Pow.{pow_pos, pow_mono}
-use borrow.Author.Rules.{rules}
 use Rattle.prefixes.proofs.mask.Goals as goal
 
 shifted : (x : ℕ) → 1 ≤ x → x ≤ 2 ^ 32 → 4294967295 * x % 4294967296 ≡ 4294967296 - x

@@ -4,7 +4,6 @@ use Prim.Native.Nat.{ℕ, ◌+◌, ◌-◌, ◌*◌, ◌/◌, ◌^◌, ◌<◌}
 use native.Mathlib.Nat.{add-sub_of_le}
 use lib.Bits.{bit_and, and_high}
 use lib.Pow.{shr_mod}
-use borrow.Author.Rules.{rules}
 use Rattle.rules.specs.Table.{prefix}
 use Rattle.prefixes.proofs.prefix_of.Goals as goal
 

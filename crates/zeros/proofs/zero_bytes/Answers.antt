@@ -1,8 +1,5 @@
 -- The bytes before i are zero: `Zeroed`.
-use Prim.Native.Nat.{◌-◌}
-use native.Mathlib.Omega.{arith}
-use lib.ListN.{length}
-use Rattle.zeros.proofs.Zeros.{Zeroed, zeroed_none, zeroed_more, zeroed_all}
+use Rattle.zeros.proofs.Zeros.{zeroed_none, zeroed_more, zeroed_all}
 use Rattle.zeros.proofs.zero_bytes.Goals as goal
 
 pub loop-i-init : goal.loop-i-init

@@ -1,8 +1,7 @@
 -- The bytes before i are zero: `Zeroed`.
 use Prim.Native.Nat.{◌-◌}
-use native.Mathlib.Omega.{arith}
 use lib.ListN.{length}
-use Rattle.zeros.proofs.Zeros.{Zeroed, zeroed_none, zeroed_more, zeroed_all}
+use Rattle.zeros.proofs.Zeros.{Zeroed}
 use Rattle.zeros.proofs.zero_bytes.Given as goal
 
 abbrev pub invariant-loop-i : goal.invariant-loop-i
