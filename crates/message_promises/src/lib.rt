@@ -3,4 +3,3 @@
 // (proofs/Routes.antt), so that all of crates/promises holds after it; what is said of the message itself is in
 // proofs/Promises.antt and proofs/Refused.antt.
 #![tactic(auto)]
-
