@@ -5,11 +5,11 @@ ghost use Rattle.std.specs.Prelude.{◌≡◌};
 ghost use Rattle.rules.specs.Table.{answered};
 ghost use Rattle.message_format.specs.Writing.{write_withdrawal};
 
-use bytes::copy;
 use message_cursors::bytes_for;
 use prefixes::prefix_of;
 
 // Writes the withdrawal of a route. Gives back 0, or a refusal's number.
+#[tactic(auto, unfolding(message_format::specs::Format::bytes_for))]
 pub fn write_withdrawal(p: u32, length: u32, room: &mut [u8]) -> u32
     ensures { write_withdrawal p length room.old ≡ answered result room.new }
 {
@@ -39,6 +39,6 @@ pub fn write_withdrawal(p: u32, length: u32, room: &mut [u8]) -> u32
     longest[25] = (p % 256) as u8;
     longest[26] = 0;
     longest[27] = 0;
-    copy(&longest[..size], room);
+    room.copy_from_slice(&longest[..size]);
     0
 }
