@@ -3,7 +3,6 @@ use Rattle.std.specs.Prelude.{ℕ, cond, ◌&&◌, List, length, eqb}
 use Rattle.std.proofs.Math.Option.{Option, some, none}
 use Rattle.rules.specs.Tools.{all}
 use Rattle.message_format.specs.Format.{Prefix, prefix_from}
-use Rattle.message_readers.specs.declared.Hop.{Hop}
 use Rattle.message_readers.specs.Readings.{place_hop}
 use Rattle.import_format.specs.Routes.{route_from, entry_starts, entries_to, entry_good, chosen_hop, route_hop, record_good}
 use Rattle.import_readers.specs.declared.EntriesRead.{EntriesRead}
