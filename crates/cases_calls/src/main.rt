@@ -6,6 +6,7 @@
 
 use cases::Lent;
 use rules::Settings;
+use std::io;
 
 // What a case does, beside what crates/cases has for all. For FIND and VECTOR the address stands in the
 // prefix's place.
@@ -649,49 +650,76 @@ fn wide(byte: u8) -> u32 {
     byte as u32
 }
 
-fn find(t: Settings, d: &[u8], counters: &[u8], slots: &[u32], bytes: &[u8], case: u64) {
+fn find(
+    rt: &impl Print,
+    t: Settings,
+    d: &[u8],
+    counters: &[u8],
+    slots: &[u32],
+    bytes: &[u8],
+    case: u64,
+) -> io::Result<()> {
     let party = cases::party_of(case);
     let address = cases::prefix_of(case);
     let r = table::lookup(t, counters, slots, party, address);
-    cases::number(r.refusal);
-    cases::number(flag(r.found));
-    cases::number(r.hop);
-    cases::number(r.length);
-    cases::number(r.probes);
-    cases::digits(gateway::gateway_lookup(
+    cases::number(rt, r.refusal)?;
+    cases::number(rt, flag(r.found))?;
+    cases::number(rt, r.hop)?;
+    cases::number(rt, r.length)?;
+    cases::number(rt, r.probes)?;
+    let from_c = gateway::gateway_lookup(
         t.k, d, t.e, t.s, t.a, t.b, t.c, counters, bytes, party, address,
-    ));
+    );
+    cases::digits(rt, from_c)
 }
 
-fn vector(t: Settings, d: &[u8], counters: &[u8], slots: &[u32], bytes: &[u8], address: u32) {
+fn vector(
+    rt: &impl Print,
+    t: Settings,
+    d: &[u8],
+    counters: &[u8],
+    slots: &[u32],
+    bytes: &[u8],
+    address: u32,
+) -> io::Result<()> {
     let r = table::match_vector(t, counters, slots, address);
-    cases::number(r.refusal);
-    cases::number(r.vector);
-    cases::digits(gateway::gateway_match_vector(
+    cases::number(rt, r.refusal)?;
+    cases::number(rt, r.vector)?;
+    let from_c = gateway::gateway_match_vector(
         t.k, d, t.e, t.s, t.a, t.b, t.c, counters, bytes, address,
-    ));
+    );
+    cases::digits(rt, from_c)
 }
 
 // Asks the table, by its call and as C does.
-fn ask(t: Settings, d: &[u8], counters: &[u8], slots: &[u32], bytes: &mut [u8], case: u64) {
+fn ask(
+    rt: &impl Print,
+    t: Settings,
+    d: &[u8],
+    counters: &[u8],
+    slots: &[u32],
+    bytes: &mut [u8],
+    case: u64,
+) -> io::Result<()> {
     if cases::what_of(case) == FIND {
         cases::copy_words(slots, bytes);
-        find(t, d, counters, slots, bytes, case);
+        find(rt, t, d, counters, slots, bytes, case)
     } else {
-        vector(t, d, counters, slots, bytes, cases::prefix_of(case));
+        vector(rt, t, d, counters, slots, bytes, cases::prefix_of(case))
     }
 }
 
 // Reads a place of the lent memory.
-fn read(counters: &[u8], slots: &[u32], case: u64) {
+fn read(rt: &impl Print, counters: &[u8], slots: &[u32], case: u64) -> io::Result<()> {
     let what = cases::what_of(case);
     let place = cases::prefix_of(case) as usize;
     if what == COUNTER && place < counters.len() {
-        cases::number(wide(counters[place]));
+        cases::number(rt, wide(counters[place]))?;
     }
     if what == WORD && place < slots.len() {
-        cases::number(slots[place]);
+        cases::number(rt, slots[place])?;
     }
+    Ok(())
 }
 
 // Makes a call that writes, and gives back what C gets from it.
@@ -715,72 +743,90 @@ fn act(t: Settings, d: &[u8], counters: &mut [u8], slots: &mut [u32], case: u64)
 }
 
 // A call that writes, and what the lent memory then holds.
-fn update(t: Settings, d: &[u8], counters: &mut [u8], slots: &mut [u32], case: u64) {
-    cases::digits(act(t, d, counters, slots, case));
-    cases::sums(counters, slots);
+fn update(
+    rt: &impl Print,
+    t: Settings,
+    d: &[u8],
+    counters: &mut [u8],
+    slots: &mut [u32],
+    case: u64,
+) -> io::Result<()> {
+    cases::digits(rt, act(t, d, counters, slots, case))?;
+    cases::sums(rt, counters, slots)
 }
 
 // A call, from C with so many values of D.
 fn call(
+    rt: &impl Print,
     t: Settings,
     values: usize,
     counters: &mut [u8],
     slots: &mut [u32],
     bytes: &mut [u8],
     case: u64,
-) {
+) -> io::Result<()> {
     let list = cases::list_of(t);
     let many = cases::bytes_lent(values, &list);
     if cases::what_of(case) < FIND {
-        update(t, &list[..many], counters, slots, case);
+        update(rt, t, &list[..many], counters, slots, case)
     } else {
-        ask(t, &list[..many], counters, slots, bytes, case);
+        ask(rt, t, &list[..many], counters, slots, bytes, case)
     }
 }
 
 // A case over the memory that is lent for it: a call, or a place of the memory read or damaged.
 fn make(
+    rt: &impl Print,
     t: Settings,
     values: usize,
     counters: &mut [u8],
     slots: &mut [u32],
     bytes: &mut [u8],
     case: u64,
-) {
+) -> io::Result<()> {
     if cases::what_of(case) < COUNTER {
-        call(t, values, counters, slots, bytes, case);
+        call(rt, t, values, counters, slots, bytes, case)
     } else {
-        read(counters, slots, case);
+        read(rt, counters, slots, case)?;
         cases::damage(counters, slots, case);
+        Ok(())
     }
 }
 
 // A case over as much of the memory as is lent, and what it writes.
 fn line(
+    rt: &impl Print,
     t: Settings,
     lent: Lent,
     counters: &mut [u8],
     slots: &mut [u32],
     bytes: &mut [u8],
     case: u64,
-) {
+) -> io::Result<()> {
     let many = cases::bytes_lent(lent.counters, counters);
     let words = cases::words_lent(lent.words, slots);
     let count = cases::bytes_lent(lent.bytes, bytes);
-    cases::begin(case);
+    cases::begin(rt, case)?;
     make(
+        rt,
         t,
         lent.values,
         &mut counters[..many],
         &mut slots[..words],
         &mut bytes[..count],
         case,
-    );
-    cases::end();
+    )?;
+    cases::end(rt)
 }
 
 // The cases of a list, one after the other over the same memory.
-fn run(cases: &[u64], counters: &mut [u8], slots: &mut [u32], bytes: &mut [u8]) {
+fn run(
+    rt: &impl Print,
+    cases: &[u64],
+    counters: &mut [u8],
+    slots: &mut [u32],
+    bytes: &mut [u8],
+) -> io::Result<()> {
     let mut t = cases::none_set();
     let mut lent = cases::none_lent();
     let mut i = 0;
@@ -788,15 +834,16 @@ fn run(cases: &[u64], counters: &mut [u8], slots: &mut [u32], bytes: &mut [u8]) 
         let case = cases[i];
         t = cases::set(t, case);
         lent = cases::lend(lent, case);
-        line(t, lent, counters, slots, bytes, case);
+        line(rt, t, lent, counters, slots, bytes, case)?;
         i += 1;
     }
+    Ok(())
 }
 
-fn main() {
+fn main(rt: HostRuntime) -> io::Result<()> {
     // Before the first clear the memory holds something else than zeros.
     let mut counters = [7u8; 65536];
     let mut slots = [7u32; 1026];
     let mut bytes = [7u8; 4104];
-    run(&CASES, &mut counters, &mut slots, &mut bytes);
+    run(&rt, &CASES, &mut counters, &mut slots, &mut bytes)
 }

@@ -4,8 +4,8 @@
 #![tactic(auto)]
 
 use gateway::gateway_list_differences;
-use libc::STDOUT_FILENO;
 use rules::Settings;
+use std::io;
 
 // A case is a number in hex whose first digit says what follows: for an add to a table a prefix, a length and a hop, for
 // damage a word and its place among the table's slots.
@@ -153,32 +153,34 @@ fn second(k: u32) -> Settings {
     }
 }
 
-fn show_byte(byte: u8, i: usize) {
+fn show_byte(rt: &impl Print, byte: u8, i: usize) -> io::Result<()> {
     if i % 4 == 0 {
-        io::write_all(STDOUT_FILENO, b" ");
+        print!(rt; " ")?;
     }
-    io::print_hex(STDOUT_FILENO, byte as u64, 2);
+    print!(rt; "{byte:02x}")
 }
 
 // The words of so many bytes, and one more.
-fn show(list: &[u8; 312], lent: usize) {
+fn show(rt: &impl Print, list: &[u8; 312], lent: usize) -> io::Result<()> {
     let mut i = 0;
     while i < list.len() {
         if i / 4 <= lent / 4 {
-            show_byte(list[i], i);
+            show_byte(rt, list[i], i)?;
         }
         i += 1;
     }
+    Ok(())
 }
 
-fn show_words(words: &[u32; 78], lent: usize) {
+fn show_words(rt: &impl Print, words: &[u32; 78], lent: usize) -> io::Result<()> {
     let mut list = [0u8; 312];
     cases::copy_words(words, &mut list);
-    show(&list, lent);
+    show(rt, &list, lent)
 }
 
 // Compares as C does, with the bytes of slots that are lent.
 fn ask_from_c(
+    rt: &impl Print,
     t: Settings,
     counters: &[u8],
     slots: &[u8],
@@ -186,22 +188,24 @@ fn ask_from_c(
     counters2: &[u8],
     slots2: &[u8],
     case: u64,
-) {
+) -> io::Result<()> {
     let d = t.d;
     let d2 = u.d;
     let party = (case / 0x1000 % 0x100) as u32;
     let mut list = [0xaau8; 312];
     let end = cases::bytes_lent((case % 0x1000) as usize, &list);
     let l = &mut list[..end];
-    cases::digits(gateway_list_differences(
+    let answer = gateway_list_differences(
         t.k, &d, t.e, t.s, t.a, t.b, t.c, counters, slots, u.k, &d2, u.e, u.s, u.a, u.b, u.c,
         counters2, slots2, party, l,
-    ));
-    show(&list, (case % 0x1000) as usize);
+    );
+    cases::digits(rt, answer)?;
+    show(rt, &list, (case % 0x1000) as usize)
 }
 
 // Compares by words, with those that are lent.
 fn ask_by_words(
+    rt: &impl Print,
     t: Settings,
     counters: &[u8],
     slots: &[u32],
@@ -209,19 +213,20 @@ fn ask_by_words(
     counters2: &[u8],
     slots2: &[u32],
     case: u64,
-) {
+) -> io::Result<()> {
     let party = (case / 0x1000 % 0x100) as u32;
     let mut list = [0xaaaaaaaau32; 78];
     let end = cases::words_lent((case % 0x1000 / 4) as usize, &list);
     let l = &mut list[..end];
     let r = difference_calls::difference(t, counters, slots, u, counters2, slots2, party, l);
-    cases::digits(r.refusal as u64);
-    cases::digits(r.count as u64);
-    show_words(&list, (case % 0x1000) as usize);
+    cases::digits(rt, r.refusal as u64)?;
+    cases::digits(rt, r.count as u64)?;
+    show_words(rt, &list, (case % 0x1000) as usize)
 }
 
 // Lends the slots as bytes,
 fn from_c(
+    rt: &impl Print,
     t: Settings,
     counters: &[u8],
     slots: &[u32],
@@ -229,7 +234,7 @@ fn from_c(
     counters2: &[u8],
     slots2: &[u32],
     case: u64,
-) {
+) -> io::Result<()> {
     let mut bytes = [0u8; 2060];
     cases::copy_words(slots, &mut bytes);
     let mut bytes2 = [0u8; 2060];
@@ -237,6 +242,7 @@ fn from_c(
     let end = cases::bytes_lent((case / 0x1_0000_0000 % 0x1000) as usize, &bytes);
     let end2 = cases::bytes_lent((case / 0x10_0000 % 0x1000) as usize, &bytes2);
     ask_from_c(
+        rt,
         t,
         counters,
         &bytes[..end],
@@ -244,11 +250,12 @@ fn from_c(
         counters2,
         &bytes2[..end2],
         case,
-    );
+    )
 }
 
 // and as words.
 fn by_words(
+    rt: &impl Print,
     t: Settings,
     counters: &[u8],
     slots: &[u32],
@@ -256,10 +263,11 @@ fn by_words(
     counters2: &[u8],
     slots2: &[u32],
     case: u64,
-) {
+) -> io::Result<()> {
     let end = cases::words_lent((case / 0x1_0000_0000 % 0x1000 / 4) as usize, slots);
     let end2 = cases::words_lent((case / 0x10_0000 % 0x1000 / 4) as usize, slots2);
     ask_by_words(
+        rt,
         t,
         counters,
         &slots[..end],
@@ -267,11 +275,12 @@ fn by_words(
         counters2,
         &slots2[..end2],
         case,
-    );
+    )
 }
 
 // Lends the counters, and compares both ways.
 fn compare(
+    rt: &impl Print,
     t: Settings,
     counters: &[u8],
     slots: &[u32],
@@ -279,22 +288,30 @@ fn compare(
     counters2: &[u8],
     slots2: &[u32],
     case: u64,
-) {
+) -> io::Result<()> {
     let end = cases::bytes_lent((case / 0x1_0000_0000_0000 % 0x10 * 256) as usize, counters);
     let end2 = cases::bytes_lent((case / 0x1000_0000_0000 % 0x10 * 256) as usize, counters2);
     let c = &counters[..end];
     let c2 = &counters2[..end2];
-    from_c(t, c, slots, u, c2, slots2, case);
-    by_words(t, c, slots, u, c2, slots2, case);
+    from_c(rt, t, c, slots, u, c2, slots2, case)?;
+    by_words(rt, t, c, slots, u, c2, slots2, case)
 }
 
 // Compares in the order that the case has.
-fn ask(counters: &[u8], slots: &[u32], counters2: &[u8], slots2: &[u32], case: u64) {
+fn ask(
+    rt: &impl Print,
+    counters: &[u8],
+    slots: &[u32],
+    counters2: &[u8],
+    slots2: &[u32],
+    case: u64,
+) -> io::Result<()> {
     let what = cases::what_of(case);
     let k = (case / 0x100_0000_0000_0000 % 0x10) as u32;
     let k2 = (case / 0x10_0000_0000_0000 % 0x10) as u32;
     if what == EXCHANGED {
         compare(
+            rt,
             second(k),
             counters2,
             slots2,
@@ -302,9 +319,10 @@ fn ask(counters: &[u8], slots: &[u32], counters2: &[u8], slots2: &[u32], case: u
             counters,
             slots,
             case,
-        );
+        )
     } else if what == ITSELF {
         compare(
+            rt,
             cases::small(k, 2),
             counters,
             slots,
@@ -312,9 +330,10 @@ fn ask(counters: &[u8], slots: &[u32], counters2: &[u8], slots2: &[u32], case: u
             counters,
             slots,
             case,
-        );
+        )
     } else {
         compare(
+            rt,
             cases::small(k, 2),
             counters,
             slots,
@@ -322,66 +341,88 @@ fn ask(counters: &[u8], slots: &[u32], counters2: &[u8], slots2: &[u32], case: u
             counters2,
             slots2,
             case,
-        );
+        )
     }
 }
 
 // Adds a route, or else damages a word.
-fn act(t: Settings, counters: &mut [u8], slots: &mut [u32], case: u64, adds: bool) {
+fn act(
+    rt: &impl Print,
+    t: Settings,
+    counters: &mut [u8],
+    slots: &mut [u32],
+    case: u64,
+    adds: bool,
+) -> io::Result<()> {
     let p = cases::prefix_of(case);
     let length = cases::length_of(case);
     let hop = cases::hop_of(case);
     let party = cases::party_of(case);
     if adds {
-        cases::digits(table::add(t, counters, slots, party, p, length, hop) as u64);
+        cases::digits(
+            rt,
+            table::add(t, counters, slots, party, p, length, hop) as u64,
+        )?;
     } else {
         cases::put_word(slots, hop as usize, p);
     }
+    Ok(())
 }
 
 fn line(
+    rt: &impl Print,
     counters: &mut [u8],
     slots: &mut [u32],
     counters2: &mut [u8],
     slots2: &mut [u32],
     case: u64,
-) {
+) -> io::Result<()> {
     let what = cases::what_of(case);
-    cases::begin(case);
+    cases::begin(rt, case)?;
     if what <= DAMAGE {
-        act(cases::small(2, 2), counters, slots, case, what == ADD);
+        act(rt, cases::small(2, 2), counters, slots, case, what == ADD)
     } else if what <= DAMAGE_SECOND {
-        act(second(3), counters2, slots2, case, what == ADD_TO_SECOND);
+        act(
+            rt,
+            second(3),
+            counters2,
+            slots2,
+            case,
+            what == ADD_TO_SECOND,
+        )
     } else {
-        ask(counters, slots, counters2, slots2, case);
+        ask(rt, counters, slots, counters2, slots2, case)
     }
 }
 
 fn run(
+    rt: &impl Print,
     cases: &[u64],
     counters: &mut [u8],
     slots: &mut [u32],
     counters2: &mut [u8],
     slots2: &mut [u32],
-) {
+) -> io::Result<()> {
     let mut i = 0;
     while i < cases.len() {
-        line(counters, slots, counters2, slots2, cases[i]);
-        cases::end();
+        line(rt, counters, slots, counters2, slots2, cases[i])?;
+        cases::end(rt)?;
         i += 1;
     }
+    Ok(())
 }
 
-fn main() {
+fn main(rt: HostRuntime) -> io::Result<()> {
     let mut counters = [0u8; 512];
     let mut slots = [0u32; 258];
     let mut counters2 = [0u8; 1024];
     let mut slots2 = [0u32; 514];
     run(
+        &rt,
         &CASES,
         &mut counters,
         &mut slots,
         &mut counters2,
         &mut slots2,
-    );
+    )
 }

@@ -3,6 +3,8 @@
 // file stdout comes from the rules alone: tests/cases works it out.
 #![tactic(auto)]
 
+use std::io;
+
 // What a case does. Zeros for the stream's words and the counts, and a table that is cleared.
 const BEGIN: u32 = 0;
 
@@ -669,6 +671,7 @@ fn lend(lent: Lent, case: u64) -> Lent {
 }
 
 fn take(
+    rt: &impl Print,
     lent: Lent,
     counters: &mut [u8],
     slots: &mut [u32],
@@ -677,24 +680,26 @@ fn take(
     words: &mut [u32; 3],
     room: &mut [u8; 65548],
     chunk: &[u8],
-) {
+) -> io::Result<()> {
     if lent.from_c {
         let d = [4u8; 32];
-        cases::digits(gateway::gateway_import(
+        let number = gateway::gateway_import(
             lent.k, &d, 1, 2, 1, 2, 1, counters, slots, lent.party, hops, counts, words, room,
             chunk,
-        ));
+        );
+        cases::digits(rt, number)
     } else {
         let t = cases::small(lent.k, 2);
         let number = import_calls::import_chunk(
             t, counters, slots, lent.party, hops, counts, words, room, chunk,
         );
-        cases::digits(number as u64);
+        cases::digits(rt, number as u64)
     }
 }
 
 // So many bytes of the dump from a place on, over as much of the table as is lent.
 fn chunk(
+    rt: &impl Print,
     lent: Lent,
     counters: &mut [u8],
     slots: &mut [u32],
@@ -704,13 +709,14 @@ fn chunk(
     room: &mut [u8; 65548],
     dump: &[u8],
     case: u64,
-) {
+) -> io::Result<()> {
     let bytes = cases::bytes_lent(lent.counters, counters);
     let whole = cases::words_lent(lent.slots, slots);
     let from = cases::bytes_lent(cases::prefix_of(case) as usize, dump);
     let rest = &dump[from..];
     let many = cases::bytes_lent(cases::hop_of(case) as usize, rest);
     take(
+        rt,
         lent,
         &mut counters[..bytes],
         &mut slots[..whole],
@@ -719,22 +725,29 @@ fn chunk(
         words,
         room,
         &rest[..many],
-    );
-    cases::show(counters, slots, room);
+    )?;
+    cases::show(rt, counters, slots, room)
 }
 
-fn end(from_c: bool, words: &mut [u32; 3]) {
+fn end(rt: &impl Print, from_c: bool, words: &mut [u32; 3]) -> io::Result<()> {
     if from_c {
-        cases::digits(gateway::gateway_end_stream(words));
+        cases::digits(rt, gateway::gateway_end_stream(words))
     } else {
-        cases::digits(stream_records::end_stream(words) as u64);
+        cases::digits(rt, stream_records::end_stream(words) as u64)
     }
 }
 
-fn begin(counters: &mut [u8], slots: &mut [u32], counts: &mut [u32; 3], words: &mut [u32; 3]) {
-    cases::digits(table::clear(cases::small(2, 2), counters, slots) as u64);
+fn begin(
+    rt: &impl Print,
+    counters: &mut [u8],
+    slots: &mut [u32],
+    counts: &mut [u32; 3],
+    words: &mut [u32; 3],
+) -> io::Result<()> {
+    cases::digits(rt, table::clear(cases::small(2, 2), counters, slots) as u64)?;
     *counts = [0, 0, 0];
     *words = [0, 0, 0];
+    Ok(())
 }
 
 // A case that calls nothing.
@@ -758,6 +771,7 @@ fn prepare(
 
 // A case, and what it writes.
 fn line(
+    rt: &impl Print,
     lent: Lent,
     counters: &mut [u8; 512],
     slots: &mut [u32; 258],
@@ -767,19 +781,22 @@ fn line(
     room: &mut [u8; 65548],
     dump: &[u8],
     case: u64,
-) {
-    cases::begin(case);
+) -> io::Result<()> {
+    cases::begin(rt, case)?;
     match cases::what_of(case) {
-        BEGIN => begin(counters, slots, counts, words),
-        CHUNK => chunk(lent, counters, slots, hops, counts, words, room, dump, case),
-        END => end(lent.from_c, words),
+        BEGIN => begin(rt, counters, slots, counts, words)?,
+        CHUNK => chunk(
+            rt, lent, counters, slots, hops, counts, words, room, dump, case,
+        )?,
+        END => end(rt, lent.from_c, words)?,
         _ => prepare(hops, counts, words, room, case),
     }
-    cases::finish(counts, words);
+    cases::finish(rt, counts, words)
 }
 
 // The cases of a list, one after the other over the same memory.
 fn run(
+    rt: &impl Print,
     cases: &[u64],
     counters: &mut [u8; 512],
     slots: &mut [u32; 258],
@@ -788,7 +805,7 @@ fn run(
     words: &mut [u32; 3],
     room: &mut [u8; 65548],
     dump: &[u8],
-) {
+) -> io::Result<()> {
     let mut lent = Lent {
         k: 2,
         counters: 512,
@@ -800,12 +817,15 @@ fn run(
     while i < cases.len() {
         let case = cases[i];
         lent = lend(lent, case);
-        line(lent, counters, slots, hops, counts, words, room, dump, case);
+        line(
+            rt, lent, counters, slots, hops, counts, words, room, dump, case,
+        )?;
         i += 1;
     }
+    Ok(())
 }
 
-fn main() {
+fn main(rt: HostRuntime) -> io::Result<()> {
     let mut counters = [7u8; 512];
     let mut slots = [7u32; 258];
     let mut hops = [0u32; 8];
@@ -815,6 +835,7 @@ fn main() {
     let mut dump = [0u8; 131108];
     cases::fill(&mut dump, &RECORDS);
     run(
+        &rt,
         &CASES,
         &mut counters,
         &mut slots,
@@ -823,5 +844,5 @@ fn main() {
         &mut words,
         &mut room,
         &dump,
-    );
+    )
 }

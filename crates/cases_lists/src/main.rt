@@ -4,8 +4,8 @@
 #![tactic(auto)]
 
 use gateway::gateway_lookup_list;
-use libc::STDOUT_FILENO;
 use rules::Settings;
+use std::io;
 
 // A case is a number in hex whose first digit says what follows: for an add a prefix, a length and a
 // hop, for damage a word and its place among the slots.
@@ -126,39 +126,52 @@ fn lend(lent: Lent, case: u64) -> Lent {
     }
 }
 
-fn show_byte(byte: u8, i: usize) {
+fn show_byte(rt: &impl Print, byte: u8, i: usize) -> io::Result<()> {
     if i % 4 == 0 {
-        io::write_all(STDOUT_FILENO, b" ");
+        print!(rt; " ")?;
     }
-    io::print_hex(STDOUT_FILENO, byte as u64, 2);
+    print!(rt; "{byte:02x}")
 }
 
 // The words of so many bytes, and one more.
-fn show(bytes: &[u8; 96], lent: usize) {
+fn show(rt: &impl Print, bytes: &[u8; 96], lent: usize) -> io::Result<()> {
     let mut i = 0;
     while i < bytes.len() {
         if i / 4 <= lent / 4 {
-            show_byte(bytes[i], i);
+            show_byte(rt, bytes[i], i)?;
         }
         i += 1;
     }
+    Ok(())
 }
 
-fn show_words(words: &[u32; 24], lent: usize) {
+fn show_words(rt: &impl Print, words: &[u32; 24], lent: usize) -> io::Result<()> {
     let mut bytes = [0u8; 96];
     cases::copy_words(words, &mut bytes);
-    show(&bytes, lent);
+    show(rt, &bytes, lent)
 }
 
-fn ask_table(t: Settings, counters: &[u8], slots: &[u32], party: u32, list: &[u32], lent: usize) {
+fn ask_table(
+    rt: &impl Print,
+    t: Settings,
+    counters: &[u8],
+    slots: &[u32],
+    party: u32,
+    list: &[u32],
+    lent: usize,
+) -> io::Result<()> {
     let mut results = [0xaaaaaaaau32; 24];
     let end = cases::words_lent(lent / 4, &results);
     let r = &mut results[..end];
-    cases::digits(table::lookup_list(t, counters, slots, party, list, r) as u64);
-    show_words(&results, lent);
+    cases::digits(
+        rt,
+        table::lookup_list(t, counters, slots, party, list, r) as u64,
+    )?;
+    show_words(rt, &results, lent)
 }
 
 fn ask_from_c(
+    rt: &impl Print,
     t: Settings,
     d: &[u8],
     counters: &[u8],
@@ -166,18 +179,20 @@ fn ask_from_c(
     party: u32,
     list: &[u8],
     lent: usize,
-) {
+) -> io::Result<()> {
     let mut results = [0xaau8; 96];
     let end = cases::bytes_lent(lent, &results);
     let r = &mut results[..end];
-    cases::digits(gateway_lookup_list(
+    let refusal = gateway_lookup_list(
         t.k, d, t.e, t.s, t.a, t.b, t.c, counters, slots, party, list, r,
-    ));
-    show(&results, lent);
+    );
+    cases::digits(rt, refusal)?;
+    show(rt, &results, lent)
 }
 
 // Asks the table, which is lent the whole words of so many bytes of slots and addresses.
 fn ask_words(
+    rt: &impl Print,
     t: Settings,
     counters: &[u8],
     slots: &[u32],
@@ -185,14 +200,23 @@ fn ask_words(
     party: u32,
     addresses: usize,
     lent: usize,
-) {
+) -> io::Result<()> {
     let end = cases::words_lent(places / 4, slots);
     let count = cases::words_lent(addresses / 4, &ADDRESSES);
-    ask_table(t, counters, &slots[..end], party, &ADDRESSES[..count], lent);
+    ask_table(
+        rt,
+        t,
+        counters,
+        &slots[..end],
+        party,
+        &ADDRESSES[..count],
+        lent,
+    )
 }
 
 // Asks as C does, with so many bytes of slots and addresses.
 fn ask_bytes(
+    rt: &impl Print,
     t: Settings,
     d: &[u8],
     counters: &[u8],
@@ -201,17 +225,33 @@ fn ask_bytes(
     party: u32,
     addresses: usize,
     lent: usize,
-) {
+) -> io::Result<()> {
     let mut bytes = [0u8; 1036];
     cases::copy_words(slots, &mut bytes);
     let mut list = [0u8; 20];
     cases::copy_words(&ADDRESSES, &mut list);
     let end = cases::bytes_lent(places, &bytes);
     let count = cases::bytes_lent(addresses, &list);
-    ask_from_c(t, d, counters, &bytes[..end], party, &list[..count], lent);
+    ask_from_c(
+        rt,
+        t,
+        d,
+        counters,
+        &bytes[..end],
+        party,
+        &list[..count],
+        lent,
+    )
 }
 
-fn ask(settings: Settings, values: usize, counters: &[u8], slots: &[u32], case: u64) {
+fn ask(
+    rt: &impl Print,
+    settings: Settings,
+    values: usize,
+    counters: &[u8],
+    slots: &[u32],
+    case: u64,
+) -> io::Result<()> {
     let mut t = settings;
     t.k = (case / 0x10_0000_0000_0000 % 0x100) as u32;
     let addresses = (case / 0x100_0000_0000 % 0x1000) as usize;
@@ -221,8 +261,18 @@ fn ask(settings: Settings, values: usize, counters: &[u8], slots: &[u32], case: 
     let end = cases::bytes_lent((case / 0x1_0000 % 0x1000) as usize, counters);
     let d = cases::list_of(t);
     let many = cases::bytes_lent(values, &d);
-    ask_words(t, &counters[..end], slots, places, party, addresses, lent);
+    ask_words(
+        rt,
+        t,
+        &counters[..end],
+        slots,
+        places,
+        party,
+        addresses,
+        lent,
+    )?;
     ask_bytes(
+        rt,
         t,
         &d[..many],
         &counters[..end],
@@ -231,37 +281,59 @@ fn ask(settings: Settings, values: usize, counters: &[u8], slots: &[u32], case: 
         party,
         addresses,
         lent,
-    );
+    )
 }
 
-fn add(t: Settings, lent: Lent, counters: &mut [u8], slots: &mut [u32], case: u64) {
+fn add(
+    rt: &impl Print,
+    t: Settings,
+    lent: Lent,
+    counters: &mut [u8],
+    slots: &mut [u32],
+    case: u64,
+) -> io::Result<()> {
     let p = cases::prefix_of(case);
     let length = cases::length_of(case);
     let hop = cases::hop_of(case);
     let end = cases::bytes_lent(lent.counters, counters);
     let party = cases::party_of(case);
     let c = &mut counters[..end];
-    cases::digits(table::add(t, c, slots, party, p, length, hop) as u64);
+    cases::digits(rt, table::add(t, c, slots, party, p, length, hop) as u64)
 }
 
-fn act(t: Settings, lent: Lent, counters: &mut [u8], slots: &mut [u32], case: u64) {
+fn act(
+    rt: &impl Print,
+    t: Settings,
+    lent: Lent,
+    counters: &mut [u8],
+    slots: &mut [u32],
+    case: u64,
+) -> io::Result<()> {
     let what = cases::what_of(case);
     if what == ADD {
-        add(t, lent, counters, slots, case);
+        add(rt, t, lent, counters, slots, case)?;
     } else if what == DAMAGE {
         cases::put_word(slots, cases::hop_of(case) as usize, cases::prefix_of(case));
     } else if what != FILTER {
-        ask(t, lent.values, counters, slots, case);
+        ask(rt, t, lent.values, counters, slots, case)?;
     }
+    Ok(())
 }
 
-fn line(t: Settings, lent: Lent, counters: &mut [u8], slots: &mut [u32], case: u64) {
-    cases::begin(case);
-    act(t, lent, counters, slots, case);
-    cases::end();
+fn line(
+    rt: &impl Print,
+    t: Settings,
+    lent: Lent,
+    counters: &mut [u8],
+    slots: &mut [u32],
+    case: u64,
+) -> io::Result<()> {
+    cases::begin(rt, case)?;
+    act(rt, t, lent, counters, slots, case)?;
+    cases::end(rt)
 }
 
-fn run(cases: &[u64], counters: &mut [u8], slots: &mut [u32]) {
+fn run(rt: &impl Print, cases: &[u64], counters: &mut [u8], slots: &mut [u32]) -> io::Result<()> {
     let mut t = cases::small(2, 2);
     let mut lent = Lent {
         values: 32,
@@ -272,13 +344,14 @@ fn run(cases: &[u64], counters: &mut [u8], slots: &mut [u32]) {
         let case = cases[i];
         t = set(t, case);
         lent = lend(lent, case);
-        line(t, lent, counters, slots, case);
+        line(rt, t, lent, counters, slots, case)?;
         i += 1;
     }
+    Ok(())
 }
 
-fn main() {
+fn main(rt: HostRuntime) -> io::Result<()> {
     let mut counters = [0u8; 576];
     let mut slots = [0u32; 258];
-    run(&CASES, &mut counters, &mut slots);
+    run(&rt, &CASES, &mut counters, &mut slots)
 }

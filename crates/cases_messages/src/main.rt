@@ -4,8 +4,8 @@
 #![tactic(auto)]
 
 use cases::Lent;
-use libc::STDOUT_FILENO;
 use rules::Settings;
+use std::io;
 
 // What a case does, beside what crates/cases has for all.
 const CLEAR: u32 = 0;
@@ -516,21 +516,23 @@ fn byte_at(bytes: &[u8], place: usize) -> u8 {
 
 // Reads a message by the crates' own call.
 fn apply(
+    rt: &impl Print,
     t: Settings,
     counters: &mut [u8],
     slots: &mut [u32],
     party: u32,
     message: &[u8],
     hops: &[u32],
-) {
+) -> io::Result<()> {
     let report = message_calls::apply_message(t, counters, slots, party, message, hops);
-    cases::digits(report.refusal as u64);
-    cases::digits(report.accepted as u64);
-    cases::digits(report.refused as u64);
+    cases::digits(rt, report.refusal as u64)?;
+    cases::digits(rt, report.accepted as u64)?;
+    cases::digits(rt, report.refused as u64)
 }
 
 // Reads a message as C does.
 fn apply_from_c(
+    rt: &impl Print,
     t: Settings,
     values: usize,
     counters: &mut [u8],
@@ -538,98 +540,129 @@ fn apply_from_c(
     party: u32,
     message: &[u8],
     hops: &[u32],
-) {
+) -> io::Result<()> {
     let list = cases::list_of(t);
     let end = cases::bytes_lent(values, &list);
     let d = &list[..end];
-    cases::digits(gateway::gateway_update(
+    let answer = gateway::gateway_update(
         t.k, d, t.e, t.s, t.a, t.b, t.c, counters, slots, party, message, hops,
-    ));
+    );
+    cases::digits(rt, answer)
 }
 
 fn update(
+    rt: &impl Print,
     t: Settings,
     lent: Lent,
     counters: &mut [u8],
     slots: &mut [u32],
     message: &[u8],
     hops: &[u32],
-) {
+) -> io::Result<()> {
     if lent.from_c {
-        apply_from_c(t, lent.values, counters, slots, lent.party, message, hops);
+        apply_from_c(
+            rt,
+            t,
+            lent.values,
+            counters,
+            slots,
+            lent.party,
+            message,
+            hops,
+        )
     } else {
-        apply(t, counters, slots, lent.party, message, hops);
+        apply(rt, t, counters, slots, lent.party, message, hops)
     }
 }
 
 // Reads a message, and shows what that gives back and what the memory then holds.
 fn read(
+    rt: &impl Print,
     t: Settings,
     lent: Lent,
     counters: &mut [u8],
     slots: &mut [u32],
     message: &[u8],
     hops: &[u32],
-) {
-    update(t, lent, counters, slots, message, hops);
-    cases::sums(counters, slots);
+) -> io::Result<()> {
+    update(rt, t, lent, counters, slots, message, hops)?;
+    cases::sums(rt, counters, slots)
 }
 
-fn write_room(from_c: bool, p: u32, length: u32, room: &mut [u8]) {
+fn write_room(
+    rt: &impl Print,
+    from_c: bool,
+    p: u32,
+    length: u32,
+    room: &mut [u8],
+) -> io::Result<()> {
     if from_c {
-        cases::digits(gateway::gateway_write_withdrawal(p, length, room));
+        cases::digits(rt, gateway::gateway_write_withdrawal(p, length, room))
     } else {
-        cases::digits(message_writers::write_withdrawal(p, length, room) as u64);
+        cases::digits(
+            rt,
+            message_writers::write_withdrawal(p, length, room) as u64,
+        )
     }
 }
 
-fn show_byte(byte: u8) {
-    io::print_hex(STDOUT_FILENO, byte as u64, 2);
+fn show_byte(rt: &impl Print, byte: u8) -> io::Result<()> {
+    print!(rt; "{byte:02x}")
 }
 
-fn show_room(room: &[u8]) {
-    io::write_all(STDOUT_FILENO, b" ");
+fn show_room(rt: &impl Print, room: &[u8]) -> io::Result<()> {
+    print!(rt; " ")?;
     let mut i = 0;
     while i < room.len() {
-        show_byte(room[i]);
+        show_byte(rt, room[i])?;
         i += 1;
     }
+    Ok(())
 }
 
 // Reads as many bytes of the room as were lent.
 fn read_room(
+    rt: &impl Print,
     t: Settings,
     lent: Lent,
     counters: &mut [u8],
     slots: &mut [u32],
     room: &[u8],
     size: usize,
-) {
+) -> io::Result<()> {
     let end = cases::bytes_lent(size, room);
-    read(t, lent, counters, slots, &room[..end], &[]);
+    read(rt, t, lent, counters, slots, &room[..end], &[])
 }
 
 fn show_written(
+    rt: &impl Print,
     t: Settings,
     lent: Lent,
     counters: &mut [u8],
     slots: &mut [u32],
     room: &[u8; 32],
     size: usize,
-) {
-    show_room(room);
-    read_room(t, lent, counters, slots, room, size);
+) -> io::Result<()> {
+    show_room(rt, room)?;
+    read_room(rt, t, lent, counters, slots, room, size)
 }
 
 // Writes a withdrawal, and reads it.
-fn write(t: Settings, lent: Lent, counters: &mut [u8], slots: &mut [u32], case: u64) {
+fn write(
+    rt: &impl Print,
+    t: Settings,
+    lent: Lent,
+    counters: &mut [u8],
+    slots: &mut [u32],
+    case: u64,
+) -> io::Result<()> {
     let mut room = [0xaau8; 32];
     let size = cases::hop_of(case) as usize;
     let end = cases::bytes_lent(size, &room);
     let p = cases::prefix_of(case);
     let length = cases::length_of(case);
-    write_room(lent.from_c, p, length, &mut room[..end]);
-    show_written(t, lent, counters, slots, &room, size);
+    write_room(rt, lent.from_c, p, length, &mut room[..end])?;
+    show_written(rt, t, lent, counters, slots, &room, size)
 }
 
 // Puts the two bytes of a number at two places of the message.
@@ -647,6 +680,7 @@ fn put_four(message: &mut [u8], place: u32, four: u32) {
 
 // Reads so much of the message, with so many next hops.
 fn read_front(
+    rt: &impl Print,
     t: Settings,
     lent: Lent,
     counters: &mut [u8],
@@ -654,14 +688,23 @@ fn read_front(
     message: &[u8],
     hops: &[u32],
     case: u64,
-) {
+) -> io::Result<()> {
     let end = cases::bytes_lent((case / 0x100_0000 % 0x10_0000) as usize, message);
     let count = cases::words_lent(cases::hop_of(case) as usize, hops);
-    read(t, lent, counters, slots, &message[..end], &hops[..count]);
+    read(
+        rt,
+        t,
+        lent,
+        counters,
+        slots,
+        &message[..end],
+        &hops[..count],
+    )
 }
 
 // Reads the message, in which one byte is otherwise for this time.
 fn read_patched(
+    rt: &impl Print,
     t: Settings,
     lent: Lent,
     counters: &mut [u8],
@@ -669,51 +712,76 @@ fn read_patched(
     message: &mut [u8],
     hops: &[u32],
     case: u64,
-) {
+) -> io::Result<()> {
     let place = (case / 0x10_0000_0000_0000 % 0x100) as usize;
     let before = byte_at(message, place);
     cases::put_byte(message, place, (case / 0x1000_0000_0000 % 0x100) as u8);
-    read_front(t, lent, counters, slots, message, hops, case);
+    read_front(rt, t, lent, counters, slots, message, hops, case)?;
     cases::put_byte(message, place, before);
+    Ok(())
 }
 
-fn show_lists(message: &[u8], hops: &[u32], bytes: u32, words: u32) {
+fn show_lists(
+    rt: &impl Print,
+    message: &[u8],
+    hops: &[u32],
+    bytes: u32,
+    words: u32,
+) -> io::Result<()> {
     let end = cases::bytes_lent(bytes as usize, message);
     let count = cases::words_lent(words as usize, hops);
-    cases::sums(&message[..end], &hops[..count]);
+    cases::sums(rt, &message[..end], &hops[..count])
 }
 
 // A case of the message and the next hops alone.
-fn prepare(message: &mut [u8], hops: &mut [u32], case: u64) {
+fn prepare(rt: &impl Print, message: &mut [u8], hops: &mut [u32], case: u64) -> io::Result<()> {
     let p = cases::prefix_of(case);
     let hop = cases::hop_of(case);
     match cases::what_of(case) {
         BYTES => put_four(message, hop, p),
         HOP => cases::put_word(hops, hop as usize, p),
-        LISTS => show_lists(message, hops, p, hop),
+        LISTS => show_lists(rt, message, hops, p, hop)?,
         _ => {}
     }
+    Ok(())
 }
 
-fn add(t: Settings, counters: &mut [u8], slots: &mut [u32], case: u64) {
+fn add(
+    rt: &impl Print,
+    t: Settings,
+    counters: &mut [u8],
+    slots: &mut [u32],
+    case: u64,
+) -> io::Result<()> {
     let p = cases::prefix_of(case);
     let length = cases::length_of(case);
     let hop = cases::hop_of(case);
     let party = cases::party_of(case);
-    cases::digits(table::add(t, counters, slots, party, p, length, hop) as u64);
+    cases::digits(
+        rt,
+        table::add(t, counters, slots, party, p, length, hop) as u64,
+    )
 }
 
 // A case of the table alone.
-fn act(t: Settings, counters: &mut [u8], slots: &mut [u32], case: u64) {
+fn act(
+    rt: &impl Print,
+    t: Settings,
+    counters: &mut [u8],
+    slots: &mut [u32],
+    case: u64,
+) -> io::Result<()> {
     match cases::what_of(case) {
-        CLEAR => cases::digits(table::clear(t, counters, slots) as u64),
-        ADD => add(t, counters, slots, case),
+        CLEAR => cases::digits(rt, table::clear(t, counters, slots) as u64)?,
+        ADD => add(rt, t, counters, slots, case)?,
         _ => cases::damage(counters, slots, case),
     }
+    Ok(())
 }
 
 // A case over the memory that is lent for it.
 fn call(
+    rt: &impl Print,
     t: Settings,
     lent: Lent,
     counters: &mut [u8],
@@ -721,20 +789,21 @@ fn call(
     message: &mut [u8],
     hops: &mut [u32],
     case: u64,
-) {
+) -> io::Result<()> {
     let what = cases::what_of(case);
     if what == READ {
-        read_patched(t, lent, counters, slots, message, hops, case);
+        read_patched(rt, t, lent, counters, slots, message, hops, case)
     } else if what == WRITE {
-        write(t, lent, counters, slots, case);
+        write(rt, t, lent, counters, slots, case)
     } else {
-        act(t, counters, slots, case);
-        prepare(message, hops, case);
+        act(rt, t, counters, slots, case)?;
+        prepare(rt, message, hops, case)
     }
 }
 
 // A case over as much of the memory as is lent, and what it writes.
 fn line(
+    rt: &impl Print,
     t: Settings,
     lent: Lent,
     counters: &mut [u8],
@@ -742,11 +811,12 @@ fn line(
     message: &mut [u8],
     hops: &mut [u32],
     case: u64,
-) {
+) -> io::Result<()> {
     let bytes = cases::bytes_lent(lent.counters, counters);
     let words = cases::words_lent(lent.words, slots);
-    cases::begin(case);
+    cases::begin(rt, case)?;
     call(
+        rt,
         t,
         lent,
         &mut counters[..bytes],
@@ -754,18 +824,19 @@ fn line(
         message,
         hops,
         case,
-    );
-    cases::end();
+    )?;
+    cases::end(rt)
 }
 
 // The cases of a list, one after the other over the same memory.
 fn run(
+    rt: &impl Print,
     cases: &[u64],
     counters: &mut [u8],
     slots: &mut [u32],
     message: &mut [u8],
     hops: &mut [u32],
-) {
+) -> io::Result<()> {
     let mut t = cases::none_set();
     let mut lent = cases::none_lent();
     let mut i = 0;
@@ -773,16 +844,24 @@ fn run(
         let case = cases[i];
         t = cases::set(t, case);
         lent = lend(lent, case);
-        line(t, lent, counters, slots, message, hops, case);
+        line(rt, t, lent, counters, slots, message, hops, case)?;
         i += 1;
     }
+    Ok(())
 }
 
-fn main() {
+fn main(rt: HostRuntime) -> io::Result<()> {
     // Before the first clear the memory holds something else than zeros.
     let mut counters = [7u8; 2048];
     let mut slots = [7u32; 1026];
     let mut message = [0u8; 4098];
     let mut hops = [0u32; 65538];
-    run(&CASES, &mut counters, &mut slots, &mut message, &mut hops);
+    run(
+        &rt,
+        &CASES,
+        &mut counters,
+        &mut slots,
+        &mut message,
+        &mut hops,
+    )
 }

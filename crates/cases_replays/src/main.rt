@@ -4,6 +4,8 @@
 // the rules alone: tests/cases works it out.
 #![tactic(auto)]
 
+use std::io;
+
 // What a case does, beside the damage of crates/cases, whose words are here those of the tally. All begins anew:
 // a cleared table, zeros for the stream's words, the tally FIGURES, and the day but for a byte, whose place stands
 // where the hop does. Byte 0x65 at place 0 is the day's own.
@@ -340,21 +342,24 @@ const CASES: [u64; 246] = [
 
 // All begins anew, but for a byte of the day.
 fn begin(
+    rt: &impl Print,
     counters: &mut [u8],
     slots: &mut [u32],
     tally: &mut [u32; 23],
     words: &mut [u32; 3],
     day: &mut [u8],
     case: u64,
-) {
-    cases::digits(table::clear(cases::small(2, 2), counters, slots) as u64);
+) -> io::Result<()> {
+    cases::digits(rt, table::clear(cases::small(2, 2), counters, slots) as u64)?;
     *tally = FIGURES;
     *words = [0, 0, 0];
     cases::fill_but(day, &RECORDS, case);
+    Ok(())
 }
 
 // A chunk, by the crates' own call or as C calls it.
 fn chunk(
+    rt: &impl Print,
     counters: &mut [u8; 512],
     slots: &mut [u32; 258],
     tally: &mut [u32; 23],
@@ -362,7 +367,7 @@ fn chunk(
     room: &mut [u8; 65548],
     day: &[u8],
     case: u64,
-) {
+) -> io::Result<()> {
     let from = cases::bytes_lent(cases::prefix_of(case) as usize, day);
     let rest = &day[from..];
     let many = cases::bytes_lent(cases::hop_of(case) as usize, rest);
@@ -374,27 +379,29 @@ fn chunk(
         let number = replay_calls::replay_chunk(
             t, counters, slots, party, &HOPS, tally, words, room, lent,
         );
-        cases::digits(number as u64);
+        cases::digits(rt, number as u64)?;
     } else {
         let d = t.d;
-        cases::digits(gateway::gateway_replay(
+        let number = gateway::gateway_replay(
             t.k, &d, t.e, t.s, t.a, t.b, t.c, counters, slots, party, &HOPS, tally, words, room,
             lent,
-        ));
+        );
+        cases::digits(rt, number)?;
     }
-    cases::show(counters, slots, room);
+    cases::show(rt, counters, slots, room)
 }
 
-fn end(words: &mut [u32; 3], case: u64) {
+fn end(rt: &impl Print, words: &mut [u32; 3], case: u64) -> io::Result<()> {
     if cases::what_of(case) == END {
-        cases::digits(stream_records::end_stream(words) as u64);
+        cases::digits(rt, stream_records::end_stream(words) as u64)
     } else {
-        cases::digits(gateway::gateway_end_stream(words));
+        cases::digits(rt, gateway::gateway_end_stream(words))
     }
 }
 
 // A case, and what it writes.
 fn line(
+    rt: &impl Print,
     counters: &mut [u8; 512],
     slots: &mut [u32; 258],
     tally: &mut [u32; 23],
@@ -402,18 +409,18 @@ fn line(
     room: &mut [u8; 65548],
     day: &mut [u8; 66048],
     case: u64,
-) {
-    cases::begin(case);
+) -> io::Result<()> {
+    cases::begin(rt, case)?;
     match cases::what_of(case) {
-        BEGIN => begin(counters, slots, tally, words, day, case),
-        CHUNK | C_CHUNK => chunk(counters, slots, tally, words, room, day, case),
-        END | C_END => end(words, case),
+        BEGIN => begin(rt, counters, slots, tally, words, day, case)?,
+        CHUNK | C_CHUNK => chunk(rt, counters, slots, tally, words, room, day, case)?,
+        END | C_END => end(rt, words, case)?,
         _ => cases::damage(counters, tally, case),
     }
-    cases::finish(tally, words);
+    cases::finish(rt, tally, words)
 }
 
-fn main() {
+fn main(rt: HostRuntime) -> io::Result<()> {
     let mut counters = [7u8; 512];
     let mut slots = [7u32; 258];
     let mut tally = [0u32; 23];
@@ -424,6 +431,7 @@ fn main() {
     let mut i = 0;
     while i < cases.len() {
         line(
+            &rt,
             &mut counters,
             &mut slots,
             &mut tally,
@@ -431,7 +439,8 @@ fn main() {
             &mut room,
             &mut day,
             cases[i],
-        );
+        )?;
         i += 1;
     }
+    Ok(())
 }
