@@ -74,7 +74,7 @@ module _ (first second : Side) where
   -- ---- At each of these lengths
 
   -- what is listed of one of the lengths is listed, nothing else is, and where the lengths rise the list does
-  at_there : {lengths : List ℕ} {L : ℕ} → Memᴰ L lengths → (d : Difference) → Appears d (differences_of first second L) → Appears d (differences_at first second lengths)
+  at_there : {L : ℕ} {lengths : List ℕ} → Memᴰ L lengths → (d : Difference) → Appears d (differences_of first second L) → Appears d (differences_at first second lengths)
   unfolding differences_at
   at_there (Memᴰ.head {x = M} {xs = lengths} e) d m = Memᴰ.append_left (differences_at first second lengths) (rw e at m)
   at_there (Memᴰ.tail {x = M} {xs = lengths} among) d m = Memᴰ.append_right (differences_of first second M) (at_there among d m)

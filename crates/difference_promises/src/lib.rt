@@ -2,4 +2,3 @@
 // refused for are defined in specs/. What holds of any two tables is in proofs/Differing.antt, demand 1 in proofs/Refused.antt,
 // and what holds after two histories in proofs/Promises.antt.
 #![tactic(auto)]
-

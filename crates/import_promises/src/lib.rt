@@ -3,4 +3,3 @@
 // are and what is counted of them, is defined in specs/Dumps.antt. Each theorem stands here for imports, under the name that
 // docs/PROMISES.md has.
 #![tactic(auto)]
-

@@ -3,4 +3,3 @@
 // the UPDATEs that its records hold, is defined in specs/Days.antt: a replay leaves the table that these leave when they are handed
 // to the message call one by one (proofs/Messages.antt).
 #![tactic(auto)]
-

@@ -1,6 +1,6 @@
 -- The records of a stream are those that stand in its file, one after the other: between two records a stream takes the next one
 -- whole (crates/stream_format/proofs/Whole.antt), and then stands between two records again or has ended.
-use Prim.Native.Nat.{ℕ, zero, suc, ◌+◌, ◌≤◌, ◌<◌}
+use Prim.Native.Nat.{ℕ, zero, suc, ◌+◌, ◌<◌}
 use mathlib.Core.Path.{◌≡◌, refl, sym, ap, ◌∙◌}
 use mathlib.Core.Bool.{true, cond}
 use mathlib.Core.List.{List, [], ◌∷◌, ◌++◌, append-nil, append_assoc}

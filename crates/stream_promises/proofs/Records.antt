@@ -7,7 +7,7 @@ use mathlib.Core.List.{List, [], ◌∷◌, ◌++◌, append-nil}
 use native.Mathlib.Nat.{zero-add}
 use native.Mathlib.Numerals.{add-one}
 use native.Mathlib.Omega.{arith}
-use lib.Dec.{ltb, eqb}
+use lib.Dec.{ltb}
 use lib.ListN.{length, take, set, drop, length-append, length-drop, take-append-drop, get_or-append}
 use lib.Seq.{sets, length-sets, sets-eq, take_at, take-add, length-take-le}
 use borrow.Table.Steps.{cases}
@@ -17,8 +17,7 @@ use Rattle.message_format.specs.Format.{byte, two_bytes, four_bytes}
 use Rattle.stream_format.specs.declared.Kind.{Kind}
 use Rattle.stream_format.specs.declared.Stage.{Stage}
 use Rattle.stream_format.specs.declared.Stage.TheVariants.{Header, Body, Over, Ended}
-use Rattle.stream_format.specs.declared.Event.TheVariants.{Nothing, Record}
-use Rattle.stream_format.specs.Streams.{is_kind, body_size, to_read, to_step_over, Framed, framed, header_read, next_byte, Done, Doing, Stream, stream, unless_ended, completed, byte_taken, chunk_taken}
+use Rattle.stream_format.specs.Streams.{is_kind, body_size, to_read, to_step_over, Framed, header_read, next_byte, Done, Doing, Stream, stream, unless_ended, completed, byte_taken, chunk_taken}
 use Rattle.stream_format.proofs.Cuts.{chunk_append, ended_stays}
 
 -- ---- The header says the same wherever it stands

@@ -5,4 +5,3 @@
 // table, counts and final number are the same (proofs/Cuts.antt), and its records are those of its file, one after the other
 // (specs/Files.antt, proofs/Files.antt); what is said of the chunk itself is in proofs/Promises.antt and proofs/Refused.antt.
 #![tactic(auto)]
-
