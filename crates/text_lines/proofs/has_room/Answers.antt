@@ -5,23 +5,19 @@ use lib.ListN.{length}
 use borrow.Author.Tests.{lt-leb, le-leb}
 use Rattle.text_lines.specs.Lines.{roomy}
 use Rattle.text_lines.proofs.Rooms.{same_test}
-use Rattle.text_lines.proofs.has_room.Statement.{statement}
-use Rattle.text_lines.proofs.has_room.Tie as tie
+use Rattle.text_lines.proofs.has_room.Goals as goal
 
-returns : tie.Need-returns
+pub returns-then-line-lt65 : goal.returns-then-line-lt65
 unfolding roomy
-returns c = simp (lt-leb _ _ c.if1.true)
+returns-then-line-lt65 c = simp (lt-leb _ _ c.if-line-lt65.true)
 
-returns-2 : tie.Need-returns-2
+pub returns-then-kept-gt65 : goal.returns-then-kept-gt65
 unfolding roomy
-returns-2 c = simp (le-leb _ _ c.before.if1.false, lt-leb _ _ c.if2.true)
+returns-then-kept-gt65 c = simp (le-leb _ _ c.if-line-lt65.false, lt-leb _ _ c.if-kept-gt65.true)
 
-returns-3 : tie.Need-returns-3
+pub returns : goal.returns
 unfolding roomy
-returns-3 c =
-    let a = c.before.before.args in
-    simp (le-leb _ _ c.before.if1.false, le-leb _ _ c.if2.false)
+returns c =
+    let a = c.args in
+    simp (le-leb _ _ c.if-line-lt65.false, le-leb _ _ c.if-kept-gt65.false)
     (same_test a.ends (length a.out.now / 33) (a.ends * 33) (length a.out.now) (λ h. omega arith) (λ h. omega arith))
-
-pub has_room_spec : {M : Type 1} → statement M
-has_room_spec = tie.close (tie.spec returns returns-2 returns-3)
