@@ -2,20 +2,22 @@
 // What has been read is answered before more is waited for; a read or a write that fails ends it.
 #![tactic(auto)]
 
-ghost use Rattle.std.specs.Prelude.{◌≤◌, length};
+ghost use Rattle.std.specs.Prelude.{◌≡◌, ◌≤◌, length};
 
-use libc::{STDIN_FILENO, STDOUT_FILENO};
 use rules::Settings;
+use std::io::{Read, Write};
 
 // Writes the first n bytes.
-fn write_first(bytes: &[u8], n: usize) -> bool
+fn write_first(output: &mut impl Write, bytes: &[u8], n: usize) -> bool
     requires { n ≤ length bytes.now }
 {
-    io::write_all(STDOUT_FILENO, &bytes[..n])
+    output.write_all(&bytes[..n]).is_ok()
 }
 
-// Answers all of standard input, a chunk at a time.
+// Answers all of the input, a chunk at a time.
 fn serve(
+    input: &mut impl Read,
+    output: &mut impl Write,
     settings: Settings,
     counters: &mut [u8],
     slots: &mut [u32],
@@ -27,21 +29,19 @@ fn serve(
     // A proved loop has to end, and nothing says that the input does: no run uses these turns up.
     let mut turns = u64::MAX;
     while turns > 0 {
-        let got = libc::read(STDIN_FILENO, chunk);
-        if got < 0 {
+        let Ok(n) = input.read(chunk) else {
             return;
-        }
-        if got == 0 {
+        };
+        if n == 0 {
             let last = text_lines::finish_input(settings, counters, slots, line, kept, out);
-            write_first(out, last.written);
+            write_first(output, out, last.written);
             return;
         }
-        let n = io::count(got, chunk);
         let fed = text_lines::feed_chunk(settings, counters, slots, line, kept, &chunk[..n], out);
         if fed.refused {
             return;
         }
-        if !write_first(out, fed.written) {
+        if !write_first(output, out, fed.written) {
             return;
         }
         kept = fed.count;
@@ -49,7 +49,14 @@ fn serve(
     }
 }
 
-fn main() {
+// Zeros, as many as the type says: so many that a proof had better not count them one by one.
+fn zeros<const N: usize>() -> [u8; N]
+    ensures { N ≡ length result }
+{
+    [0; N]
+}
+
+fn main(rt: HostRuntime) {
     let settings = Settings {
         k: 2,
         d: [4; 32],
@@ -65,8 +72,10 @@ fn main() {
     // The rooms that no chunk is refused with: 65 bytes for the line, and 33 for each of a chunk.
     let mut line = [0u8; 65];
     let mut chunk = [0u8; 16384];
-    let mut out = [0u8; 540672];
+    let mut out: [u8; 540672] = zeros();
     serve(
+        &mut rt.stdin(),
+        &mut rt.stdout(),
         settings,
         &mut counters,
         &mut slots,
