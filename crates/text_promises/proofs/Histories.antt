@@ -69,7 +69,8 @@ pub lines_on_paper : {t : Settings} {calls : List Call} {answers : List ℕ} {m 
     → lines_text t m lines ≡ paper_answers t (stored_by calls answers) lines
 unfolding lines_text paper_answers
 lines_on_paper history [] = refl
-lines_on_paper {t} {m = m} history (line ∷ lines) =
+lines_on_paper {t = t} {calls = calls} {answers = answers} {m = m} history (line ∷ lines) =
     let next = line_made t m line in
+    let reply = line_reply t m line in
     ap₂ ◌++◌ (text_on_paper history line)
-    (lines_on_paper (history_more history next) lines ∙ ap (λ (routes : List Route). paper_answers t routes lines) (more_routes_on_paper history next))
+    (lines_on_paper {t = t} {calls = calls ++ calls_of (request line)} {answers = answers ++ numbers_told (calls_of (request line)) reply.text} {m = reply.memory} (history_more history next) lines ∙ ap (λ (routes : List Route). paper_answers t routes lines) (more_routes_on_paper history next))
