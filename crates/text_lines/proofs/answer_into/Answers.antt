@@ -1,6 +1,5 @@
 -- `text_lines::answer_into` meets its contract: what the line was read as says which call replies, and that call's contract says how.
-use mathlib.Core.Path.{refl, sym, ◌∙◌}
-use borrow.Author.Rules.{rules}
+use mathlib.Core.Path.{refl, sym}
 use Rattle.text_lines.specs.Lines.{reply, line_reply}
 use Rattle.text_lines.proofs.Replies.{by_update, by_lookup}
 use Rattle.text_lines.proofs.answer_into.Goals as goal

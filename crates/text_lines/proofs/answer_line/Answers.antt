@@ -1,7 +1,6 @@
 -- `text_lines::answer_line` meets its contract: without room nothing is put, and with it the inner call's contract says all.
 use mathlib.Core.Path.{refl}
 use native.Mathlib.Omega.{arith}
-use borrow.Author.Rules.{rules}
 use borrow.Author.Tests.{leb-true}
 use Rattle.std.proofs.Common.{sym, ◌∙◌}
 use Rattle.text_lines.specs.Lines.{answer_fits, answer_line}

@@ -1,5 +1,4 @@
 -- `text_lines::feed_into` meets its contract. The invariant: what lies in lent memory is the stream after the bytes passed, and each of the three ways of a turn is one law of `Streams`.
-use Prim.Native.Nat.{◌-◌}
 use mathlib.Core.Path.{◌≡◌, refl}
 use mathlib.Core.Bool.{false}
 use native.Mathlib.Omega.{arith}
@@ -8,7 +7,7 @@ use lib.ListN.{length, length-set}
 use lib.Seq.{length-take-le, take-length}
 use Rattle.rules.specs.Tools.{fed}
 use Rattle.text_lines.specs.Lines.{feed}
-use Rattle.text_lines.proofs.Streams.{Turn, feed_more, lies_going, lies_ended, lies_kept, lies_left_out}
+use Rattle.text_lines.proofs.Streams.{feed_more, lies_going, lies_ended, lies_kept, lies_left_out}
 use Rattle.text_lines.proofs.feed_into.Goals as goal
 
 pub loop-i-init : goal.loop-i-init

@@ -1,7 +1,6 @@
 -- `text_lines::finish_input` meets its contract: without room the stream stays; with it nothing is kept, or what is kept is a line that ends.
 use mathlib.Core.Bool.{true, false}
 use native.Mathlib.Omega.{arith}
-use borrow.Author.Rules.{rules}
 use borrow.Author.Tests.{ne_eqb}
 use lib.Seq.{length-take-le}
 use Rattle.std.proofs.Common.{sym, ◌∙◌}

@@ -1,7 +1,6 @@
 -- `text_lines::has_room_at` meets its contract: past the end nothing fits in, and before it what is left is compared.
 use Prim.Native.Nat.{◌+◌, ◌-◌}
 use native.Mathlib.Omega.{arith}
-use borrow.Author.Rules.{rules}
 use borrow.Author.Tests.{lt-leb}
 use lib.ListN.{length}
 use Rattle.text_lines.specs.Lines.{answer_fits}
