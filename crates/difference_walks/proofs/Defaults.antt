@@ -46,6 +46,11 @@ module _ (t : Settings) (slots : List ℕ) (u : Settings) (others : List ℕ) (p
   unfolding between
   all_parts = rw (← has_default t slots party, ← has_default u others party) (default_first (has t slots party) (has u others party) agree)
 
+  -- as they are told of the marks that are there
+  pub told_defaults : {mark other a b : ℕ} → mark ≡ default_mark t slots party → other ≡ default_mark u others party → a ≡ told party mark → b ≡ told party other
+      → ◌≡◌ {A = Difference} (record { length = 0; prefix = 0; first = a; second = b }) defaults
+  told_defaults its theirs told_its told_theirs = rw (told_its, told_theirs, its, theirs)
+
   -- there is room for all
   pub all_room : in_range t ≡ true → in_range u ≡ true → {unit : ℕ} {write : Bool} {list : List ℕ} → (write ≡ true → unit * length (between t slots u others party) ≤ length list)
       → RoomFor unit write list 0 (as_difference defaults ++ longer)

@@ -88,7 +88,7 @@ pub fn list_in_words(
     requires slots { Slots first slots.now }
     requires slots_2 { Slots second slots2.now }
     requires party_bound { party ≤ 1 }
-    requires party_bound_2 { write ≡ true → 4 * count_of (between first slots.now second slots2.now party) ≤ count_of list.old }
+    requires room { write ≡ true → 4 * count_of (between first slots.now second slots2.now party) ≤ count_of list.old }
     ensures value { result ≡ count_of (between first slots.now second slots2.now party) }
     ensures list_after { list.new ≡ put_if write list.old 0 (difference_words (between first slots.now second slots2.now party)) }
 {
@@ -181,7 +181,7 @@ pub fn list_in_bytes(
     requires slots { Slots first (words slots.now) }
     requires slots_2 { Slots second (words slots2.now) }
     requires party_bound { party ≤ 1 }
-    requires party_bound_2 { write ≡ true → 16 * count_of (between first (words slots.now) second (words slots2.now) party) ≤ count_of list.old }
+    requires room { write ≡ true → 16 * count_of (between first (words slots.now) second (words slots2.now) party) ≤ count_of list.old }
     ensures value { result ≡ count_of (between first (words slots.now) second (words slots2.now) party) }
     ensures list_after { list.new ≡ put_if write list.old 0 (bytes_of (difference_words (between first (words slots.now) second (words slots2.now) party))) }
 {
