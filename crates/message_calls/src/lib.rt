@@ -116,7 +116,7 @@ fn apply_task(
     length: u32,
 ) -> u32
     requires checked { Checked settings counters.old slots.old party prefix length }
-    requires task_value { hop_fits task ≡ true }
+    requires hop_fits { hop_fits task ≡ true }
     ensures { act settings (task_call party task prefix length) (lent counters.old slots.old) ≡ left result counters.new slots.new }
 {
     match task {

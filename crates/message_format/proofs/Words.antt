@@ -9,7 +9,6 @@ use lib.Dec.{ltb}
 use lib.ListN.{length, get_or}
 use lib.Pow.{are_bytes}
 use borrow.Author.Tests.{ltb-true, lt-ltb}
-use Rattle.rules.specs.Table.{prefix}
 use Rattle.rules.specs.Calls.{Call, Add, Withdraw, word_sized, all_word_sized}
 use Rattle.rules.proofs.Members.{both}
 use Rattle.rules.proofs.Prefixes.{prefix_lt}
