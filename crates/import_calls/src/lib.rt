@@ -130,8 +130,8 @@ fn take_chunk(
     requires low { Low earlier 0 }
     requires sound { Sound begun }
     requires chunk_len_bound { length chunk.now ≤ 65536 }
-    ensures chunk_value { chunk_taken dump_kind (doing settings (importing party hops.now)) (stream begun room.old (work earlier counters.old slots.old)) chunk.now ≡ taken_to result room.new counters.new slots.new }
-    ensures sound_2 { Sound result.stage }
+    ensures taken { chunk_taken dump_kind (doing settings (importing party hops.now)) (stream begun room.old (work earlier counters.old slots.old)) chunk.now ≡ taken_to result room.new counters.new slots.new }
+    ensures stays_sound { Sound result.stage }
 {
     let mut stage = begun;
     let mut counts = earlier;
