@@ -1,4 +1,3 @@
--- The laws of a tally, and what the walks by hand share.
+-- The laws of a tally.
 pub mod Adding
 pub mod Figures
-mod Walking

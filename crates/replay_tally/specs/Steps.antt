@@ -1,5 +1,5 @@
 -- The tally as the code steps it: from what was counted of a record's routes, under the numbers that they can be given.
-use Rattle.std.specs.Prelude.{ℕ, ◌+◌, ◌≤◌, List, [], ◌∷◌, get_or}
+use Rattle.std.specs.Prelude.{ℕ, ◌+◌, ◌≤◌, [], ◌∷◌, get_or}
 use Rattle.message_calls.specs.declared.Counts.{Counts}
 use Rattle.replay_format.specs.declared.Tally.{Tally}
 
