@@ -30,10 +30,10 @@ after_within after less = record { low = low_within after.low (omega arith) }
 -- ---- One record
 
 -- each of these figures is low, so that each place has a low one
-all_low : (figure : ℕ → ℕ) (most : ℕ) → ((number : ℕ) → figure number ≤ most) → (numbers : List ℕ) (place : ℕ) → get_or (map figure numbers) place 0 ≤ most
+all_low : (figure : ℕ → ℕ) (most : ℕ) → ((number : ℕ) → figure number ≤ most) → (places : List ℕ) (place : ℕ) → get_or (map figure places) place 0 ≤ most
 all_low figure most low [] place = omega arith
-all_low figure most low (number ∷ numbers) zero = low number
-all_low figure most low (number ∷ numbers) (suc place) = all_low figure most low numbers place
+all_low figure most low (number ∷ places) zero = low number
+all_low figure most low (number ∷ places) (suc place) = all_low figure most low places place
 
 -- no more are refused under a number than there are answers
 refused_few : (number : ℕ) (answers : List ℕ) → refused_under number answers ≤ length answers
