@@ -9,24 +9,24 @@ use mathlib.Core.List.{List}
 use lib.Dec.{lit<}
 use lib.ListN.{length, get_or}
 use mir.Syntax.{w32}
-use base.Logic.{ent, via, snd∗, guard, guard_e}
+use base.Logic.{ent, via, snd∗}
 use types.Logic.{sem}
 use contract.Lifetimes.{Lfts, Shares, toks}
-use contract.Monad.{fact, fact_i}
+use contract.Monad.{fact, fact_use, fact_i}
 use denote.RattleType.{Valss, owns}
 use denote.Signature.{types_at}
 use denote.Triple.Clauses.{AtExit}
 use denote.Triple.Entry.{on_entry}
 use borrow.Author.Tests.{lt-ltb}
-use borrow.Fn.Between.{ownsᵒ, owns-in}
-use borrow.Fn.Kinds.{ParamKind, ResultKind, sig_of, slots, Dens, valssP, GoodsP}
+use borrow.Fn.Between.{Seen, owns-Seen, goods}
+use borrow.Fn.Kinds.{ParamKind, ResultKind, sig_of, slots, Dens, GoodsP}
 use borrow.Fn.World.{World, ArgsD, ResD}
 use borrow.Rule.Slice.Know.{fit_at}
 use borrow.Table.Referent.{f_int}
 use Rattle.rules.specs.declared.Settings.{Settings}
 use Rattle.rules.specs.declared.Answer.{Answer}
 use Rattle.rules.specs.declared.Vector.{Vector}
-use Rattle.rules.specs.Table.{Memory, lent, left, lookup as looked_up, match_vector, answered, lookup_list}
+use Rattle.rules.specs.Table.{Memory, lent, left, lookup as looked_up, match_vector as matched_by, answered, lookup_list as listed_up}
 use Rattle.rules.specs.Calls.{Call, Clear, Add, Withdraw, Change, word_sized, act}
 use Rattle.promises.specs.Demands.{Words, answer_at}
 use Rattle.promises.proofs.Lists.{place_answers}
@@ -80,11 +80,11 @@ pub lookup_ensures : (κs : Lfts 2) (a : ArgsD lookup.signature κs) (r : ResD l
 lookup_ensures κs a r end learnt = learnt
 
 pub match_vector_ensures : (κs : Lfts 2) (a : ArgsD match_vector.signature κs) (r : ResD match_vector.signature κs) (end : AtExit match_vector.ended κs) → match_vector_reads.Learnt κs a r end
-    → r ≡ match_vector a.0 (lent a.1.0.now a.1.1.0.now) a.1.1.1.0
+    → r ≡ matched_by a.0 (lent a.1.0.now a.1.1.0.now) a.1.1.1.0
 match_vector_ensures κs a r end learnt = learnt
 
 pub list_ensures : (κs : Lfts 4) (a : ArgsD lookup_list.signature κs) (r : ResD lookup_list.signature κs) (end : AtExit lookup_list.ended κs) → list_reads.Learnt κs a r end
-    → lookup_list a.0 (lent a.1.0.now a.1.1.0.now) a.1.1.1.0 a.1.1.1.1.0.now a.1.1.1.1.1.0.now ≡ answered r end.1.1.1.1.1.0.now
+    → listed_up a.0 (lent a.1.0.now a.1.1.0.now) a.1.1.1.0 a.1.1.1.1.0.now a.1.1.1.1.1.0.now ≡ answered r end.1.1.1.1.1.0.now
 list_ensures κs a r end learnt = learnt
 
 -- ---- What the arguments' types tell
@@ -96,12 +96,8 @@ pub owned : (w : World) {n : ℕ} (ps : List (ParamKind n)) (r : ResultKind n) (
 owned w {n} ps r κs qs a vss =
     let 𝓤 = w.𝓤 in
     let has = sem w.𝓛 (owns (types_at (slots ps) κs) a vss) in
-    let rest = sem w.𝓛 (ownsᵒ κs ps a) in
-    let told = (vss ≡ valssP κs ps a) × GoodsP κs ps a in
     via 𝓤 has (snd∗ 𝓤 (toks w.𝓛 n κs qs) has)
-    (via 𝓤 (guard 𝓤 told rest)
-    (owns-in w.𝓛 n κs ps a vss)
-    (guard_e 𝓤 told rest (λ both. fact_i 𝓤 (GoodsP κs ps a) rest both.1)))
+    (fact_use 𝓤 (Seen w.𝓛 n κs ps a vss) (owns-Seen w.𝓛 n κs ps a vss) (λ seen. fact_i 𝓤 (GoodsP κs ps a) has (goods w.𝓛 n κs ps a vss seen)))
 
 -- so of the six of the seven calls that are lent counters and slots alone
 module _ (w : World) (κs : Lfts 2) (qs : Shares 2) where
@@ -186,7 +182,7 @@ pub data ListCalled : (t : Settings) (m : Memory) (party : ℕ) (addresses resul
       → ListCalled a.0 (lent a.1.0.now a.1.1.0.now) a.1.1.1.0 a.1.1.1.1.0.now a.1.1.1.1.1.0.now r end.1.1.1.1.1.0.now
 
 pub list_given : {t : Settings} {m : Memory} {party : ℕ} {addresses results : List ℕ} {r : ℕ} {results' : List ℕ} → ListCalled t m party addresses results r results'
-    → lookup_list t m party addresses results ≡ answered r results'
+    → listed_up t m party addresses results ≡ answered r results'
 list_given (LookupListCalled κs a r end good words learnt) = list_ensures κs a r end learnt
 
 pub list_words : {t : Settings} {m : Memory} {party : ℕ} {addresses results : List ℕ} {r : ℕ} {results' : List ℕ} → ListCalled t m party addresses results r results' → Words addresses
@@ -207,7 +203,7 @@ pub data Matched : (t : Settings) (m : Memory) (address : ℕ) (answer : Vector)
   MatchVectorCalled : (κs : Lfts 2) (a : ArgsD match_vector.signature κs) (r : ResD match_vector.signature κs) (end : AtExit match_vector.ended κs) → GoodsP κs match_vector_kinds.ps a → match_vector_reads.Learnt κs a r end
       → Matched a.0 (lent a.1.0.now a.1.1.0.now) a.1.1.1.0 r
 
-pub matched_given : {t : Settings} {m : Memory} {address : ℕ} {answer : Vector} → Matched t m address answer → answer ≡ match_vector t m address
+pub matched_given : {t : Settings} {m : Memory} {address : ℕ} {answer : Vector} → Matched t m address answer → answer ≡ matched_by t m address
 matched_given (MatchVectorCalled κs a r end good learnt) = match_vector_ensures κs a r end learnt
 
 pub matched_word : {t : Settings} {m : Memory} {address : ℕ} {answer : Vector} → Matched t m address answer → address < 2 ^ 32

@@ -20,7 +20,7 @@ use borrow.Table.Referent.{f_int}
 use Rattle.rules.specs.declared.Settings.{Settings}
 use Rattle.rules.specs.Table.{lent}
 use Rattle.stream_format.specs.Chunks.{Chunked, chunked}
-use Rattle.import_format.specs.Importing.{importing, import_chunk}
+use Rattle.import_format.specs.Importing.{importing, import_chunk as imported}
 use Rattle.stream_promises.specs.Noted.{next_chunk}
 use Rattle.import_promises.specs.Dumps.{Imports}
 use Rattle.caller_promises.proofs.Contracts.{owned}
@@ -38,7 +38,7 @@ past a = a.1.1.1.1
 -- ---- What the contract tells
 
 pub import_ensures : (κs : Lfts 7) (a : ArgsD import_chunk.signature κs) (r : ResD import_chunk.signature κs) (end : AtExit import_chunk.ended κs) → import_reads.Learnt κs a r end
-    → import_chunk a.0 (lent a.1.0.now a.1.1.0.now) a.1.1.1.0 (past a).0.now (past a).1.0.now (past a).1.1.0.now (past a).1.1.1.0.now (past a).1.1.1.1.0.now
+    → imported a.0 (lent a.1.0.now a.1.1.0.now) a.1.1.1.0 (past a).0.now (past a).1.0.now (past a).1.1.0.now (past a).1.1.1.0.now (past a).1.1.1.1.0.now
     ≡ chunked r (past end).1.0.now (past end).1.1.0.now (past end).1.1.1.0.now end.1.0.now end.1.1.0.now
 import_ensures κs a r end learnt = learnt
 
@@ -67,7 +67,7 @@ pub data ImportCalled : (t : Settings) (party : ℕ) (hops : List ℕ) (s : Chun
       (past a).1.1.1.1.0.now (chunked r (past end).1.0.now (past end).1.1.0.now (past end).1.1.1.0.now end.1.0.now end.1.1.0.now)
 
 pub import_applied : {t : Settings} {party : ℕ} {hops chunk : List ℕ} {s s' : Chunked} → ImportCalled t party hops s chunk s' → next_chunk t (importing party hops) s chunk ≡ s'
-unfolding next_chunk import_chunk
+unfolding next_chunk imported
 import_applied (ImportChunkCalled κs a r end good room_bytes bytes learnt) = import_ensures κs a r end learnt
 
 pub import_bytes : {t : Settings} {party : ℕ} {hops chunk : List ℕ} {s s' : Chunked} → ImportCalled t party hops s chunk s' → (are_bytes s.room ≡ true) × (are_bytes chunk ≡ true)

@@ -23,7 +23,7 @@ use Rattle.rules.specs.declared.Settings.{Settings}
 use Rattle.rules.specs.Table.{Memory, lent, answered}
 use Rattle.message_format.specs.declared.Report.{Report}
 use Rattle.message_format.specs.Reading.{reported, apply_message as applied}
-use Rattle.message_format.specs.Writing.{write_withdrawal}
+use Rattle.message_format.specs.Writing.{write_withdrawal as written}
 use Rattle.caller_promises.proofs.Contracts.{owned}
 use Rattle.caller_promises.proofs.Elements.{elements_owned}
 use Rattle.message_calls.specs.contracts.apply_message
@@ -40,7 +40,7 @@ pub message_ensures : (κs : Lfts 4) (a : ArgsD apply_message.signature κs) (r 
 message_ensures κs a r end learnt = learnt
 
 pub written_ensures : (κs : Lfts 1) (a : ArgsD write_withdrawal.signature κs) (r : ResD write_withdrawal.signature κs) (end : AtExit write_withdrawal.ended κs) → written_reads.Learnt κs a r end
-    → write_withdrawal a.0 a.1.0 a.1.1.0.now ≡ answered r end.1.1.0.now
+    → written a.0 a.1.0 a.1.1.0.now ≡ answered r end.1.1.0.now
 written_ensures κs a r end learnt = learnt
 
 -- ---- What the arguments' types tell

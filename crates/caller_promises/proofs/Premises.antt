@@ -3,7 +3,7 @@
 use Prim.Native.Nat.{ℕ, zero, suc}
 use mathlib.Core.Path.{◌≡◌, refl}
 use mathlib.Core.Bool.{true}
-use mathlib.Core.List.{List, [], ◌∷◌, ◌++◌, map, map-id}
+use mathlib.Core.List.{List, [], ◌∷◌, ◌++◌, map}
 use native.Mathlib.Omega.{arith}
 use lib.Dec.{ltb, lit<, lit≤}
 use lib.ListN.{length, replicate}
@@ -13,7 +13,7 @@ use mir.Val.{Val, vint}
 use contract.Lifetimes.{Lfts}
 use denote.Array.{each, array_val}
 use denote.Laws.{Is}
-use denote.Ref.{Bor}
+use denote.Ref.{Bor, MutBor}
 use denote.Shadow.{shadow}
 use denote.Struct.Declared.{row}
 use denote.Struct.Field.{u8-field}
@@ -70,7 +70,7 @@ each_byte (D ∷ d) small =
     ((refl, ltb-true D 256 parts.0), each_byte d parts.1)
 
 pub settings_good : (d : List ℕ) → are_bytes d ≡ true → length d ≡ 32 → Is (row the_type) (with_list d) (val the_type the_laws (with_list d) ∷ [])
-settings_good d small long = rw (map-id d) (
+settings_good d small long = (
   (word 2, (array_val (map (vint w8) d) ∷ [], (word 1, (word 2, (word 1, (word 2, (word 1, tt))))))),
   (refl, ((refl, lit< tt), ((map (vint w8) d, ((refl, long), each_byte d small)), ((refl, lit< tt), ((refl, lit< tt), ((refl, lit< tt), ((refl, lit< tt), ((refl, lit< tt), tt)))))))),
 )
@@ -78,6 +78,10 @@ settings_good d small long = rw (map-id d) (
 -- a list as it is lent
 abbrev pub lending : List ℕ → Bor (List ℕ)
 lending xs = record { ref_ptr = (0, 0); now = xs }
+
+-- and as it is lent to be written
+abbrev pub writing : List ℕ → MutBor (List ℕ)
+writing xs = record { ref_ptr = (0, 0); ghost_name = 0; now = xs }
 
 abbrev lifetimes : Lfts 2
 lifetimes = ([], ([], tt))
@@ -94,17 +98,17 @@ two = (add T one 0 (ip 10 0 0 0) 8 5).memory
 
 pub clear_called : Called T Clear sevens 0 empty
 unfolding showing
-clear_called = ClearCalled lifetimes (T, (lending sevens.counters, (lending sevens.slots, tt))) 0 (T, (lending empty.counters, (lending empty.slots, tt)))
+clear_called = ClearCalled lifetimes (T, (writing sevens.counters, (writing sevens.slots, tt))) 0 (T, (writing empty.counters, (writing empty.slots, tt)))
     (settings_good (replicate 32 4) refl refl, ((lit< tt, lit< tt), ((lit< tt, lit< tt), tt))) refl
 
 add_called : Called T (Add 1 (ip 10 0 0 0) 8 7) empty 0 one
 unfolding showing
-add_called = AddCalled lifetimes (T, (lending empty.counters, (lending empty.slots, (1, (ip 10 0 0 0, (8, (7, tt))))))) 0 (T, (lending one.counters, (lending one.slots, (1, (ip 10 0 0 0, (8, (7, tt)))))))
+add_called = AddCalled lifetimes (T, (writing empty.counters, (writing empty.slots, (1, (ip 10 0 0 0, (8, (7, tt))))))) 0 (T, (writing one.counters, (writing one.slots, (1, (ip 10 0 0 0, (8, (7, tt)))))))
     (settings_good (replicate 32 4) refl refl, ((lit< tt, lit< tt), ((lit< tt, lit< tt), ((refl, lit< tt), ((refl, lit< tt), ((refl, lit< tt), ((refl, lit< tt), tt))))))) refl
 
 other_called : Called T (Add 0 (ip 10 0 0 0) 8 5) one 0 two
 unfolding showing
-other_called = AddCalled lifetimes (T, (lending one.counters, (lending one.slots, (0, (ip 10 0 0 0, (8, (5, tt))))))) 0 (T, (lending two.counters, (lending two.slots, (0, (ip 10 0 0 0, (8, (5, tt)))))))
+other_called = AddCalled lifetimes (T, (writing one.counters, (writing one.slots, (0, (ip 10 0 0 0, (8, (5, tt))))))) 0 (T, (writing two.counters, (writing two.slots, (0, (ip 10 0 0 0, (8, (5, tt)))))))
     (settings_good (replicate 32 4) refl refl, ((lit< tt, lit< tt), ((lit< tt, lit< tt), ((refl, lit< tt), ((refl, lit< tt), ((refl, lit< tt), ((refl, lit< tt), tt))))))) refl
 
 -- ---- Lookups
@@ -132,16 +136,16 @@ addresses_sized (suc (suc i)) inside = absurd (omega arith)
 list_called : ListCalled T one 1 addresses nines 0 two_answers
 unfolding showing answer_words list_words listed fourfold list_refusal lookup_list
 list_called = LookupListCalled ([], ([], ([], ([], tt))))
-    (T, (lending one.counters, (lending one.slots, (1, (lending addresses, (lending nines, tt)))))) 0
-    (T, (lending one.counters, (lending one.slots, (1, (lending addresses, (lending two_answers, tt))))))
+    (T, (lending one.counters, (lending one.slots, (1, (lending addresses, (writing nines, tt)))))) 0
+    (T, (lending one.counters, (lending one.slots, (1, (lending addresses, (writing two_answers, tt))))))
     (settings_good (replicate 32 4) refl refl, ((lit< tt, lit< tt), ((lit< tt, lit< tt), ((refl, lit< tt), ((lit< tt, lit< tt), ((lit< tt, lit< tt), tt)))))) addresses_sized refl
 
 -- seven words are refused with 18, and stay as they were
 list_short : ListCalled T empty 0 addresses (replicate 7 9) 18 (replicate 7 9)
 unfolding showing answer_words list_words listed fourfold list_refusal lookup_list
 list_short = LookupListCalled ([], ([], ([], ([], tt))))
-    (T, (lending empty.counters, (lending empty.slots, (0, (lending addresses, (lending (replicate 7 9), tt)))))) 18
-    (T, (lending empty.counters, (lending empty.slots, (0, (lending addresses, (lending (replicate 7 9), tt))))))
+    (T, (lending empty.counters, (lending empty.slots, (0, (lending addresses, (writing (replicate 7 9), tt)))))) 18
+    (T, (lending empty.counters, (lending empty.slots, (0, (lending addresses, (writing (replicate 7 9), tt))))))
     (settings_good (replicate 32 4) refl refl, ((lit< tt, lit< tt), ((lit< tt, lit< tt), ((refl, lit< tt), ((lit< tt, lit< tt), ((lit< tt, lit< tt), tt)))))) addresses_sized refl
 
 -- ---- A history
@@ -190,14 +194,14 @@ told = (apply_message U empty_U 1 message hops).memory
 
 clear_called_U : Called U Clear before_U 0 empty_U
 unfolding showing
-clear_called_U = ClearCalled lifetimes (U, (lending before_U.counters, (lending before_U.slots, tt))) 0 (U, (lending empty_U.counters, (lending empty_U.slots, tt)))
+clear_called_U = ClearCalled lifetimes (U, (writing before_U.counters, (writing before_U.slots, tt))) 0 (U, (writing empty_U.counters, (writing empty_U.slots, tt)))
     (settings_good U.d refl refl, ((lit< tt, lit< tt), ((lit< tt, lit< tt), tt))) refl
 
 message_called : MessageCalled U empty_U 1 message hops (record { refusal = 0; accepted = 1; refused = 1 }) told
 unfolding reading showing
 message_called = ApplyMessageCalled ([], ([], ([], ([], tt))))
-    (U, (lending empty_U.counters, (lending empty_U.slots, (1, (lending message, (lending hops, tt)))))) (record { refusal = 0; accepted = 1; refused = 1 })
-    (U, (lending told.counters, (lending told.slots, (1, (lending message, (lending hops, tt))))))
+    (U, (writing empty_U.counters, (writing empty_U.slots, (1, (lending message, (lending hops, tt)))))) (record { refusal = 0; accepted = 1; refused = 1 })
+    (U, (writing told.counters, (writing told.slots, (1, (lending message, (lending hops, tt))))))
     (settings_good U.d refl refl, ((lit< tt, lit< tt), ((lit< tt, lit< tt), ((refl, lit< tt), ((lit< tt, lit< tt), ((lit< tt, lit< tt), tt)))))) refl refl
 
 -- the first call is refused, and the second accepted
@@ -243,8 +247,8 @@ zeros_bytes (suc n) = zeros_bytes n
 import_called : ImportCalled U 0 hops (begun empty_U) dump filled
 unfolding next_chunk import_chunk showing
 import_called = ImportChunkCalled ([], ([], ([], ([], ([], ([], ([], tt)))))))
-    (U, (lending empty_U.counters, (lending empty_U.slots, (0, (lending hops, (lending (replicate 3 0), (lending (replicate 3 0), (lending (replicate 65548 0), (lending dump, tt))))))))) filled.number
-    (U, (lending filled.memory.counters, (lending filled.memory.slots, (0, (lending hops, (lending filled.counts, (lending filled.words, (lending filled.room, (lending dump, tt)))))))))
+    (U, (writing empty_U.counters, (writing empty_U.slots, (0, (lending hops, (writing (replicate 3 0), (writing (replicate 3 0), (writing (replicate 65548 0), (lending dump, tt))))))))) filled.number
+    (U, (writing filled.memory.counters, (writing filled.memory.slots, (0, (lending hops, (writing filled.counts, (writing filled.words, (writing filled.room, (lending dump, tt)))))))))
     (settings_good U.d refl refl, ((lit< tt, lit< tt), ((lit< tt, lit< tt), ((refl, lit< tt), ((lit< tt, lit< tt), (refl, (refl, (refl, ((lit< tt, lit< tt), tt))))))))) (zeros_bytes 65548) refl refl
 
 -- its record is party 0's add of 10/8 with the hop of the list's second place, which is accepted
@@ -268,7 +272,7 @@ chunks_met = called_imports (Next import_called refl NoneLeft)
 
 end_called : EndCalled filled.words 0 (1 ∷ 0 ∷ 0 ∷ [])
 unfolding end_stream end_number inside_record filling
-end_called = EndStreamCalled ([], tt) (lending filled.words, tt) 0 (lending (1 ∷ 0 ∷ 0 ∷ []), tt) refl
+end_called = EndStreamCalled ([], tt) (writing filled.words, tt) 0 (writing (1 ∷ 0 ∷ 0 ∷ []), tt) refl
 
 -- ---- A day of one record, in one chunk
 
@@ -294,8 +298,8 @@ run_over = next_chunk U (replaying 1 hops) (day_begun empty_U) day
 replay_called : ReplayCalled U 1 hops (day_begun empty_U) day run_over
 unfolding next_chunk replay_chunk showing
 replay_called = ReplayChunkCalled ([], ([], ([], ([], ([], ([], ([], tt)))))))
-    (U, (lending empty_U.counters, (lending empty_U.slots, (1, (lending hops, (lending (replicate 23 0), (lending (replicate 3 0), (lending (replicate 65548 0), (lending day, tt))))))))) run_over.number
-    (U, (lending run_over.memory.counters, (lending run_over.memory.slots, (1, (lending hops, (lending run_over.counts, (lending run_over.words, (lending run_over.room, (lending day, tt)))))))))
+    (U, (writing empty_U.counters, (writing empty_U.slots, (1, (lending hops, (writing (replicate 23 0), (writing (replicate 3 0), (writing (replicate 65548 0), (lending day, tt))))))))) run_over.number
+    (U, (writing run_over.memory.counters, (writing run_over.memory.slots, (1, (lending hops, (writing run_over.counts, (writing run_over.words, (writing run_over.room, (lending day, tt)))))))))
     (settings_good U.d refl refl, ((lit< tt, lit< tt), ((lit< tt, lit< tt), ((refl, lit< tt), ((lit< tt, lit< tt), (refl, (refl, (refl, ((lit< tt, lit< tt), tt))))))))) (zeros_bytes 65548) refl refl
 
 -- the two calls of its message, party 1's: the first is refused, and the second accepted

@@ -20,7 +20,7 @@ use borrow.Table.Referent.{f_int}
 use Rattle.rules.specs.declared.Settings.{Settings}
 use Rattle.rules.specs.Table.{lent}
 use Rattle.stream_format.specs.Chunks.{Chunked, chunked}
-use Rattle.replay_format.specs.Replaying.{replaying, replay_chunk}
+use Rattle.replay_format.specs.Replaying.{replaying, replay_chunk as replayed}
 use Rattle.stream_promises.specs.Noted.{next_chunk}
 use Rattle.replay_promises.specs.Days.{Replays}
 use Rattle.caller_promises.proofs.Contracts.{owned}
@@ -38,7 +38,7 @@ past a = a.1.1.1.1
 -- ---- What the contract tells
 
 pub replay_ensures : (κs : Lfts 7) (a : ArgsD replay_chunk.signature κs) (r : ResD replay_chunk.signature κs) (end : AtExit replay_chunk.ended κs) → replay_reads.Learnt κs a r end
-    → replay_chunk a.0 (lent a.1.0.now a.1.1.0.now) a.1.1.1.0 (past a).0.now (past a).1.0.now (past a).1.1.0.now (past a).1.1.1.0.now (past a).1.1.1.1.0.now
+    → replayed a.0 (lent a.1.0.now a.1.1.0.now) a.1.1.1.0 (past a).0.now (past a).1.0.now (past a).1.1.0.now (past a).1.1.1.0.now (past a).1.1.1.1.0.now
     ≡ chunked r (past end).1.0.now (past end).1.1.0.now (past end).1.1.1.0.now end.1.0.now end.1.1.0.now
 replay_ensures κs a r end learnt = learnt
 
@@ -67,7 +67,7 @@ pub data ReplayCalled : (t : Settings) (party : ℕ) (hops : List ℕ) (s : Chun
       (past a).1.1.1.1.0.now (chunked r (past end).1.0.now (past end).1.1.0.now (past end).1.1.1.0.now end.1.0.now end.1.1.0.now)
 
 pub replay_applied : {t : Settings} {party : ℕ} {hops chunk : List ℕ} {s s' : Chunked} → ReplayCalled t party hops s chunk s' → next_chunk t (replaying party hops) s chunk ≡ s'
-unfolding next_chunk replay_chunk
+unfolding next_chunk replayed
 replay_applied (ReplayChunkCalled κs a r end good room_bytes bytes learnt) = replay_ensures κs a r end learnt
 
 pub replay_bytes : {t : Settings} {party : ℕ} {hops chunk : List ℕ} {s s' : Chunked} → ReplayCalled t party hops s chunk s' → (are_bytes s.room ≡ true) × (are_bytes chunk ≡ true)

@@ -12,7 +12,7 @@ use contract.Lifetimes.{Lfts, Shares, Within, lft_at}
 use contract.Monad.{fact}
 use denote.Array.{Array, each}
 use denote.RattleType.{Valss}
-use denote.Ref.{MutBor}
+use denote.Ref.{MutBor, MutRef}
 use denote.Shadow.{shadow}
 use denote.Signature.{types_at}
 use denote.Triple.Clauses.{AtExit}
@@ -20,7 +20,6 @@ use denote.Triple.Entry.{on_entry}
 use borrow.Author.Tests.{lt-ltb}
 use borrow.Fn.Kinds.{ParamKind, ResultKind, sig_of, slots, Dens}
 use borrow.Fn.World.{World, ArgsD, ResD}
-use borrow.Table.Owned.{MutRef}
 use borrow.Table.Referent.{f_int, rt_f, own_f}
 use Rattle.rules.specs.declared.Settings.{Settings}
 use Rattle.stream_format.specs.Kept.{end_stream as ended, ended_as}
@@ -39,8 +38,8 @@ array_bytes (byte ∷ bytes) [] fit = absurd fit
 array_bytes (byte ∷ bytes) (v ∷ values) fit = rw (lt-ltb byte 256 fit.0.1) (array_bytes bytes values fit.1)
 
 -- so the parameter at place k tells, a `&mut` to such an array, lent for lifetime j
-pub array_owned : (w : World) {n : ℕ} (ps : List (ParamKind n)) (r : ResultKind n) (κs : Lfts n) (qs : Shares n) (a : Dens κs ps) (vss : Valss (types_at (slots ps) κs)) (size k j : ℕ) (ok : Within n j) (x : MutBor (List ℕ))
-    → own_at κs ps a k ≡ (MutRef (named j) (lft_at n j ok κs) (Array (rt_f (f_int w8)) size)).own_val x
+pub array_owned : (w : World) {n : ℕ} (ps : List (ParamKind n)) (r : ResultKind n) (κs : Lfts n) (qs : Shares n) (a : Dens κs ps) (vss : Valss (types_at (slots ps) κs)) (size k j : ℕ) (ok : Within n j) (x : MutBor (List ℕ)) {vs : List Val}
+    → own_at κs ps a vss k ≡ (MutRef (named j) (lft_at n j ok κs) (Array (rt_f (f_int w8)) size)).own_val x vs
     → ent w.𝓤 (on_entry w.𝓛 (sig_of n ps r) κs qs a vss) (w.𝓛.H.⇛ (fact w.𝓤 (are_bytes x.now ≡ true)))
 array_owned w ps r κs qs a vss size k j ok x lent =
     referent_owned w ps r κs qs a vss (Array (rt_f (f_int w8)) size) k j ok x lent (λ values fit. array_bytes x.now fit.0 fit.1.1)
@@ -48,13 +47,13 @@ array_owned w ps r κs qs a vss size k j ok x lent =
 -- ---- Streams as they were ended
 
 pub end_ensures : (κs : Lfts 1) (a : ArgsD end_stream.signature κs) (r : ResD end_stream.signature κs) (end : AtExit end_stream.ended κs) → end_reads.Learnt κs a r end
-    → ended a.0.now ≡ ended_as r (end .0 .now)
+    → ended a.0.now ≡ ended_as r end.0.now
 end_ensures κs a r end learnt = learnt
 
 -- the end of a stream
 pub data EndCalled : (words : List ℕ) (r : ℕ) (words' : List ℕ) → Type 0 where
   EndStreamCalled : (κs : Lfts 1) (a : ArgsD end_stream.signature κs) (r : ResD end_stream.signature κs) (end : AtExit end_stream.ended κs) → end_reads.Learnt κs a r end
-      → EndCalled a.0.now r (end .0 .now)
+      → EndCalled a.0.now r end.0.now
 
 pub end_given : {words words' : List ℕ} {r : ℕ} → EndCalled words r words' → ended words ≡ ended_as r words'
 end_given (EndStreamCalled κs a r end learnt) = end_ensures κs a r end learnt

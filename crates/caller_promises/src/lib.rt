@@ -4,4 +4,3 @@
 // crates/difference_promises, crates/message_promises, crates/import_promises and crates/replay_promises holds of what it
 // was given.
 #![tactic(auto)]
-
