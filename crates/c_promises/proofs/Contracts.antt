@@ -70,22 +70,22 @@ use Rattle.gateway.specs.contracts.gateway_end_stream
 use Rattle.gateway.proofs.gateway_end_stream.Reads as end_reads
 
 pub clear_made : (κs : Lfts 3) (a : ArgsD gateway_clear.signature κs) (r : ResD gateway_clear.signature κs) (end : AtExit gateway_clear.ended κs) → clear_reads.Learnt κs a r end
-    → Updated (settings a) Clear (lent (past a).0.now (past a).1.0.now) r (lent (past end .0 .now) (past end .1 .0 .now))
+    → Updated (settings a) Clear (lent (past a).0.now (past a).1.0.now) r (lent ((past end).0.now) ((past end).1.0.now))
 unfolding word_sized act
 clear_made κs a r end learnt = record { word = refl; crossed = learnt }
 
 pub add_made : (κs : Lfts 3) (a : ArgsD gateway_add.signature κs) (r : ResD gateway_add.signature κs) (end : AtExit gateway_add.ended κs) → GoodsP κs add_kinds.ps a → add_reads.Learnt κs a r end
-    → Updated (settings a) (Add (past a).1.1.0 (past a).1.1.1.0 (past a).1.1.1.1.0 (past a).1.1.1.1.1.0) (lent (past a).0.now (past a).1.0.now) r (lent (past end .0 .now) (past end .1 .0 .now))
+    → Updated (settings a) (Add (past a).1.1.0 (past a).1.1.1.0 (past a).1.1.1.1.0 (past a).1.1.1.1.1.0) (lent (past a).0.now (past a).1.0.now) r (lent ((past end).0.now) ((past end).1.0.now))
 unfolding word_sized act
 add_made κs a r end good learnt = record { word = lt-ltb _ _ (past good).1.1.1.0.1; crossed = learnt }
 
 pub withdraw_made : (κs : Lfts 3) (a : ArgsD gateway_withdraw.signature κs) (r : ResD gateway_withdraw.signature κs) (end : AtExit gateway_withdraw.ended κs) → GoodsP κs withdraw_kinds.ps a → withdraw_reads.Learnt κs a r end
-    → Updated (settings a) (Withdraw (past a).1.1.0 (past a).1.1.1.0 (past a).1.1.1.1.0) (lent (past a).0.now (past a).1.0.now) r (lent (past end .0 .now) (past end .1 .0 .now))
+    → Updated (settings a) (Withdraw (past a).1.1.0 (past a).1.1.1.0 (past a).1.1.1.1.0) (lent (past a).0.now (past a).1.0.now) r (lent ((past end).0.now) ((past end).1.0.now))
 unfolding word_sized act
 withdraw_made κs a r end good learnt = record { word = lt-ltb _ _ (past good).1.1.1.0.1; crossed = learnt }
 
 pub change_made : (κs : Lfts 3) (a : ArgsD gateway_change.signature κs) (r : ResD gateway_change.signature κs) (end : AtExit gateway_change.ended κs) → GoodsP κs change_kinds.ps a → change_reads.Learnt κs a r end
-    → Updated (settings a) (Change (past a).1.1.0 (past a).1.1.1.0 (past a).1.1.1.1.0 (past a).1.1.1.1.1.0) (lent (past a).0.now (past a).1.0.now) r (lent (past end .0 .now) (past end .1 .0 .now))
+    → Updated (settings a) (Change (past a).1.1.0 (past a).1.1.1.0 (past a).1.1.1.1.0 (past a).1.1.1.1.1.0) (lent (past a).0.now (past a).1.0.now) r (lent ((past end).0.now) ((past end).1.0.now))
 unfolding word_sized act
 change_made κs a r end good learnt = record { word = lt-ltb _ _ (past good).1.1.1.0.1; crossed = learnt }
 
@@ -103,22 +103,22 @@ match_vector_made κs a r end good learnt slots lies = record { word = (past goo
 -- A list of addresses also tells what it left of the results.
 pub list_made : (κs : Lfts 5) (a : ArgsD gateway_lookup_list.signature κs) (r : ResD gateway_lookup_list.signature κs) (end : AtExit gateway_lookup_list.ended κs) → list_reads.Learnt κs a r end
     → (slots : List ℕ) → (past a).1.0.now ≡ bytes_of slots → are_bytes (past a).1.1.1.0.now ≡ true
-    → ListedUp (settings a) (lent (past a).0.now slots) (past a).1.1.0 (past a).1.1.1.0.now (past a).1.1.1.1.0.now r (past end .1 .1 .1 .1 .0 .now)
+    → ListedUp (settings a) (lent (past a).0.now slots) (past a).1.1.0 (past a).1.1.1.0.now (past a).1.1.1.1.0.now r ((past end).1.1.1.1.0.now)
 list_made κs a r end learnt slots lies bytes = record { bytes = bytes; crossed = rw (← lies) learnt }
 
 -- So does a comparison of the list: what comes after the first table's slots is the second table, the party and the list.
 pub differences_made : (κs : Lfts 7) (a : ArgsD gateway_list_differences.signature κs) (r : ResD gateway_list_differences.signature κs) (end : AtExit gateway_list_differences.ended κs) → differences_reads.Learnt κs a r end
     → (slots others : List ℕ) → (past a).1.0.now ≡ bytes_of slots → (past (past a).1.1).1.0.now ≡ bytes_of others
-    → TablesCompared (settings a) (lent (past a).0.now slots) (settings (past a).1.1) (lent (past (past a).1.1).0.now others) (past (past a).1.1).1.1.0 (past (past a).1.1).1.1.1.0.now r (past (past end .1 .1)).1.1.1.0.now
+    → TablesCompared (settings a) (lent (past a).0.now slots) (settings (past a).1.1) (lent (past (past a).1.1).0.now others) (past (past a).1.1).1.1.0 (past (past a).1.1).1.1.1.0.now r (past ((past end).1.1)).1.1.1.0.now
 differences_made κs a r end learnt slots others lies lie = record { crossed = rw (← lies, ← lie) learnt }
 
 pub update_made : (κs : Lfts 5) (a : ArgsD gateway_update.signature κs) (r : ResD gateway_update.signature κs) (end : AtExit gateway_update.ended κs) → update_reads.Learnt κs a r end
     → are_bytes (past a).1.1.1.0.now ≡ true
-    → Sent (settings a) (lent (past a).0.now (past a).1.0.now) (past a).1.1.0 (past a).1.1.1.0.now (past a).1.1.1.1.0.now r (lent (past end .0 .now) (past end .1 .0 .now))
+    → Sent (settings a) (lent (past a).0.now (past a).1.0.now) (past a).1.1.0 (past a).1.1.1.0.now (past a).1.1.1.1.0.now r (lent ((past end).0.now) ((past end).1.0.now))
 update_made κs a r end learnt bytes = record { bytes = bytes; crossed = learnt }
 
 pub written_made : (κs : Lfts 1) (a : ArgsD gateway_write_withdrawal.signature κs) (r : ResD gateway_write_withdrawal.signature κs) (end : AtExit gateway_write_withdrawal.ended κs) → written_reads.Learnt κs a r end
-    → Wrote a.0 a.1.0 a.1.1.0.now r (end .1 .1 .0 .now)
+    → Wrote a.0 a.1.0 a.1.1.0.now r end.1.1.0.now
 written_made κs a r end learnt = learnt
 
 -- A chunk of a dump: before it the number is that of the chunk before, which says nothing.
@@ -126,7 +126,7 @@ pub import_made : (κs : Lfts 8) (a : ArgsD gateway_import.signature κs) (r : R
     → are_bytes (past a).1.1.1.1.1.1.0.now ≡ true → are_bytes (past a).1.1.1.1.1.1.1.0.now ≡ true → (number : ℕ)
     → ChunkImported (settings a) (past a).1.1.0 (past a).1.1.1.0.now (chunked number (past a).1.1.1.1.0.now (past a).1.1.1.1.1.0.now (past a).1.1.1.1.1.1.0.now (past a).0.now (past a).1.0.now)
     (past a).1.1.1.1.1.1.1.0.now r
-    (chunked (gateway_refusal r) (past end .1 .1 .1 .1 .0 .now) (past end .1 .1 .1 .1 .1 .0 .now) (past end .1 .1 .1 .1 .1 .1 .0 .now) (past end .0 .now) (past end .1 .0 .now))
+    (chunked (gateway_refusal r) ((past end).1.1.1.1.0.now) ((past end).1.1.1.1.1.0.now) ((past end).1.1.1.1.1.1.0.now) ((past end).0.now) ((past end).1.0.now))
 unfolding import_chunk
 import_made κs a r end learnt room_bytes bytes number = record { room_bytes = room_bytes; bytes = bytes; number = refl; crossed = learnt }
 
@@ -135,12 +135,12 @@ pub replay_made : (κs : Lfts 8) (a : ArgsD gateway_replay.signature κs) (r : R
     → are_bytes (past a).1.1.1.1.1.1.0.now ≡ true → are_bytes (past a).1.1.1.1.1.1.1.0.now ≡ true → (number : ℕ)
     → ChunkReplayed (settings a) (past a).1.1.0 (past a).1.1.1.0.now (chunked number (past a).1.1.1.1.0.now (past a).1.1.1.1.1.0.now (past a).1.1.1.1.1.1.0.now (past a).0.now (past a).1.0.now)
     (past a).1.1.1.1.1.1.1.0.now r
-    (chunked (gateway_refusal r) (past end .1 .1 .1 .1 .0 .now) (past end .1 .1 .1 .1 .1 .0 .now) (past end .1 .1 .1 .1 .1 .1 .0 .now) (past end .0 .now) (past end .1 .0 .now))
+    (chunked (gateway_refusal r) ((past end).1.1.1.1.0.now) ((past end).1.1.1.1.1.0.now) ((past end).1.1.1.1.1.1.0.now) ((past end).0.now) ((past end).1.0.now))
 unfolding replay_chunk
 replay_made κs a r end learnt room_bytes bytes number = record { room_bytes = room_bytes; bytes = bytes; number = refl; crossed = learnt }
 
 pub end_made : (κs : Lfts 1) (a : ArgsD gateway_end_stream.signature κs) (r : ResD gateway_end_stream.signature κs) (end : AtExit gateway_end_stream.ended κs) → end_reads.Learnt κs a r end
-    → StreamEnded a.0.now r (end .0 .now)
+    → StreamEnded a.0.now r end.0.now
 end_made κs a r end learnt = learnt
 
 -- In every model of the logic, what a call asks on entry holds what the types of its arguments tell.

@@ -4,4 +4,3 @@
 // proofs/Comparisons.antt and proofs/Chunks.antt that what it reads is what the rules answer, so that all of
 // crates/promises holds of it.
 #![tactic(auto)]
-
