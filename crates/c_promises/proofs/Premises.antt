@@ -63,7 +63,7 @@ did_all t m (call ∷ calls) words =
     let parts = both (word_sized call) (all_word_sized calls) words in
     Then (rw refusal_back at (Single (updated t call m parts.0))) (did_all t (act t call m).memory calls parts.1)
 
--- ---- A day of updates of both parties, one of them refused, a list of addresses, a comparison, a message, and a dump
+-- ---- A day of updates of both parties, one of them refused, a list of addresses, a message, and a dump
 
 day : List Call
 day =
