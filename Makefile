@@ -25,14 +25,15 @@
 #                                  program's beside the second program
 #   make bench BEFORE=COMMIT       the time of all calls but change, clear, comparisons, the end of a stream and
 #                                  the writing of withdrawals beside those of an earlier commit's library, which
-#                                  is proved and built first; one up to 0.5, with one D for all lengths, only on
+#                                  is proved and built first, so it has to be one that today's kit takes, with
+#                                  crates/gateway_c; one up to 0.5, with one D for all lengths, only on
 #                                  tables that have one, and messages, imports and replays only if it has them.
 #                                  All calls are party 0's, as are those of one up to 0.9
-#   make clean                     removes target/, where all of this is built
+#   make clean                     removes target/, where all of this is built, and what the kit kept
 #
 # Needed are the kit's command rt on the PATH (but for make settings and make clean), gcc for all that
 # is C, rustc for second, soak, bench and test, g++ and python3 for test, valgrind for memory, git for bench
-# with BEFORE. The first make run or make lib takes two or three minutes, make test about twenty minutes.
+# with BEFORE. The first make run or make lib takes some minutes, the first make test the better part of an hour.
 .DEFAULT_GOAL = help
 .PHONY: help test run lib examples install uninstall settings second soak memory edits bench clean
 

@@ -1,7 +1,9 @@
 """Reads wrong edits, crates/NAME/must-fail/LABEL.edit, slip by slip, for tests/refused and tests/edits.
 
 A slip is a head, `# NAME: which input is answered how`, with any comment lines right below it, and the
-pairs of lines `old:` and `new:` up to the next head. A line `file:` holds for the pairs after it.
+pairs of lines `old:` and `new:` up to the next head. A line `file:` holds for the pairs after it. Goals are named
+after conditions, so a slip in one has further pairs, in `proofs/`, by which the answers follow the names; they change
+nothing else.
 """
 import collections
 import os
@@ -63,6 +65,11 @@ def slips_of(label):
         if not slip.pairs:
             raise Bad(f"the slip of {slip.name} has no pair of 'old:' and 'new:'")
     return slips
+
+
+def without_names(slip):
+    """A slip without the pairs by which answers follow the names of goals."""
+    return slip._replace(pairs=[pair for pair in slip.pairs if not pair[0].startswith("proofs/")])
 
 
 def edited(slip):
