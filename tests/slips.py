@@ -26,7 +26,7 @@ def read(path):
 
 def edit_files():
     """Each edit of the crates as NAME/LABEL, in the order of crates.txt."""
-    names = [line.split(":")[0].strip() for line in read("crates.txt").splitlines() if ":" in line.split("#")[0]]
+    names = [line.split(":")[0].split()[0] for line in read("crates.txt").splitlines() if ":" in line.split("#")[0]]
     folders = [(name, f"crates/{name}/must-fail") for name in names]
     return [
         f"{name}/{file[:-5]}"
