@@ -72,11 +72,11 @@ def without_names(slip):
     return slip._replace(pairs=[pair for pair in slip.pairs if not pair[0].startswith("proofs/")])
 
 
-def edited(slip):
-    """The files that a slip changes, with their new text, as rt must-fail changes them."""
+def edited(*slips):
+    """The files that slips change, with their new text, as rt must-fail changes them: each pair applies to what the
+    earlier ones made."""
     texts = {}
-    for file, old, new in slip.pairs:
-        path = f"crates/{slip.crate}/{file}"
+    for path, old, new in ((f"crates/{slip.crate}/{file}", old, new) for slip in slips for file, old, new in slip.pairs):
         text = texts.get(path) or read(path)
         if text.count(old) != 1:
             raise Bad(f"the text 'old: {old}' stands {text.count(old)} times in {path}")
