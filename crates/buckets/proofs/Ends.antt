@@ -3,12 +3,13 @@ use Prim.Native.Nat.{ℕ, zero, suc, ◌+◌, ◌≤◌, ◌<◌}
 use mathlib.Core.Path.{◌≡◌, refl}
 use mathlib.Core.Bool.{Bool, true, false, cond}
 use mathlib.Core.List.{List, [], ◌∷◌}
-use mathlib.Core.Option.{Option, some, none}
+use mathlib.Core.Option.{some, none}
+use mathlib.Core.Option as math
 use native.Mathlib.Omega.{arith}
+use Rattle.std.specs.Prelude.{Some}
 use lib.ListN.{length}
 use Rattle.rules.specs.declared.Settings.{Settings}
 use Rattle.rules.specs.declared.Place.TheVariants.{At, Absent}
-use Rattle.rules.specs.declared.Vacancy.TheVariants.{Free}
 use Rattle.rules.specs.Tools.{those}
 use Rattle.rules.specs.Table.{in_range, prefix, slot_number, mark_word, mark_at, own, holds, free, held, vacant, found_or, down_from, bit_set, set_bits, search as searched}
 use Rattle.rules.specs.Ready.{Ready, Slots}
@@ -36,15 +37,15 @@ module _ (t : Settings) (slots : List ℕ) (sized : Slots t slots) where
     unfolding bucket_place
     held_lent {M} {n} = go (held t slots party p L) refl
       where
-        go : (o : Option ℕ) → held t slots party p L ≡ o → found_or t p L 1 o (Absent (vacancy_of t p L (vacant t slots p L))) ≡ At M n slot → mark_word slot < length slots
+        go : (o : math.Option ℕ) → held t slots party p L ≡ o → found_or t p L 1 o (Absent (vacancy_of t p L (vacant t slots p L))) ≡ At M n slot → mark_word slot < length slots
         go (some s) there e = let number : slot_number t p L s ≡ slot = cc in rw number at (held_ended party p L s ready there).is_lent
         go none there e = absurd (let z : ◌≡◌ {A = ℕ} 0 1 = cc in omega arith)
 
-    pub free_lent : bucket_place t slots party p L ≡ Absent (Free slot) → mark_word slot < length slots
+    pub free_lent : bucket_place t slots party p L ≡ Absent (Some slot) → mark_word slot < length slots
     unfolding bucket_place vacant
     free_lent = go (held t slots party p L) (vacant t slots p L) refl
       where
-        go : (o v : Option ℕ) → vacant t slots p L ≡ v → found_or t p L 1 o (Absent (vacancy_of t p L v)) ≡ Absent (Free slot) → mark_word slot < length slots
+        go : (o v : math.Option ℕ) → vacant t slots p L ≡ v → found_or t p L 1 o (Absent (vacancy_of t p L v)) ≡ Absent (Some slot) → mark_word slot < length slots
         go none (some s) there e =
             let number : slot_number t p L s ≡ slot = cc in
             rw number at (slot_lent t slots sized p L s ready (some_lowest (free t slots p L) t.s s there).within)
@@ -63,7 +64,7 @@ module _ (t : Settings) (slots : List ℕ) (sized : Slots t slots) where
   search_ended party address probes slot M n (one_more {L} {Ls} ready rest) e =
       go (held t slots party (prefix address L) L) refl (search_ended party address (probes + 1) slot M n rest) e
     where
-      go : (o : Option ℕ) → held t slots party (prefix address L) L ≡ o
+      go : (o : math.Option ℕ) → held t slots party (prefix address L) L ≡ o
           → (searched t slots party address (probes + 1) Ls ≡ At M n slot → Ended slots party slot)
           → found_or t (prefix address L) L (probes + 1) o (searched t slots party address (probes + 1) Ls) ≡ At M n slot → Ended slots party slot
       go (some s) h later found =

@@ -5,12 +5,12 @@ use mathlib.Core.Bool.{Bool, true, false}
 use mathlib.Core.List.{List}
 use mathlib.Core.Option.{none}
 use native.Mathlib.Omega.{arith}
+use Rattle.std.specs.Prelude.{None}
 use lib.ListN.{length}
 use lib.Pow.{pow_pos}
 use Rattle.rules.specs.declared.Settings.{Settings}
 use Rattle.rules.specs.declared.Place.{Place}
 use Rattle.rules.specs.declared.Place.TheVariants.{At, Absent}
-use Rattle.rules.specs.declared.Vacancy.TheVariants.{Full}
 use Rattle.rules.specs.Tools.{lowest}
 use Rattle.rules.specs.Table.{in_range, mark_word, set_bits, holds, held, found_or, search}
 use Rattle.rules.specs.Ready.{Slots}
@@ -28,18 +28,18 @@ less {lengths} {turn} at =
 
 -- nothing is found yet, and the search of the lengths left, after the probes made, gives what the whole search gives
 pub record Between (t : Settings) (slots : List ℕ) (party address lengths : ℕ) (found : Place) (left probes : ℕ) : Type 0 where
-  pub nothing : found ≡ Absent Full
+  pub nothing : found ≡ Absent None
   pub same : search t slots party address 0 (set_bits lengths) ≡ search t slots party address probes (set_bits left)
   pub few : left + probes < 2 ^ 32
 
 -- nothing is found yet, and no slot below s of the bucket holds p
 pub record Below (t : Settings) (slots : List ℕ) (party p L : ℕ) (found : Place) (s : ℕ) : Type 0 where
-  pub nothing : found ≡ Absent Full
+  pub nothing : found ≡ Absent None
   pub none_holds : lowest (holds t slots party p L) s ≡ none
 
 module _ {t : Settings} {slots : List ℕ} where
   -- before the first length, and after the last
-  pub begun : {party address lengths : ℕ} → lengths < 2 ^ 32 → Between t slots party address lengths (Absent Full) lengths 0
+  pub begun : {party address lengths : ℕ} → lengths < 2 ^ 32 → Between t slots party address lengths (Absent None) lengths 0
   begun h = record { nothing = refl; same = refl; few = omega arith }
 
   pub ended : {party address lengths left probes : ℕ} {found : Place} → Between t slots party address lengths found left probes → left ≡ 0
@@ -48,7 +48,7 @@ module _ {t : Settings} {slots : List ℕ} where
   ended between last = between.nothing ∙ sym (between.same ∙ rw (last, set_bits_zero))
 
   -- before the first slot of a bucket
-  pub opened : {party p L : ℕ} {found : Place} → found ≡ Absent Full → Below t slots party p L found 0
+  pub opened : {party p L : ℕ} {found : Place} → found ≡ Absent None → Below t slots party p L found 0
   unfolding lowest
   opened nothing = record { nothing = nothing; none_holds = refl }
 

@@ -1,16 +1,18 @@
-// Buckets of slots, over lent words: a slot's prefix, then its mark.
+// Buckets of slots, over lent words: a slot's prefix, then its mark. What only reads takes the words as they are lent, as words
+// or as bytes.
 #![tactic(auto)]
 
-ghost use Rattle.std.specs.Prelude.{◌≡◌, true, ◌≤◌, ◌<◌, length, set};
+ghost use Rattle.std.specs.Prelude.{◌≡◌, true, ◌<◌, length, set};
 ghost use Rattle.rules.specs.Table.{in_range, slot_number, mark_word, default_word, mark_at, prefix_at, default_mark, with_slot, set_bits, search, first_mark, own, occupied, mark_of};
 ghost use Rattle.rules.specs.Ready.{Ready, Slots};
 ghost use Rattle.rules.specs.Meaning.{bucket_place};
+ghost use Rattle.rules.specs.Numbers.{party_number};
 ghost use Rattle.buckets.specs.Turns.{Turned, holding};
-ghost use Rattle.buckets.specs.Passes.{or_this};
 
 use hashes::bucket_of;
 use prefixes::prefix_of;
-use rules::{Place, Settings, Vacancy};
+use rules::{Party, Place, Settings};
+use words::Cell;
 
 // One length's part in a search of buckets.
 #[derive(Clone, Copy)]
@@ -23,36 +25,33 @@ pub struct Turn {
 
 // The first of a party's marks.
 #[tactic(auto, unfolding(rules::specs::Table::first_mark))]
-pub fn first_mark(party: u32) -> u32
-    requires { party ≤ 1 }
-    ensures { result ≡ first_mark party }
+pub fn first_mark(party: Party) -> u32
+    ensures { result ≡ first_mark (party_number party) }
 {
-    65536 * party + 1
+    65536 * party.number() + 1
 }
 
 // The party's mark of a hop.
-pub fn mark_of(party: u32, hop: u32) -> u32
-    requires party_bound { party ≤ 1 }
-    requires hop_bound { hop ≤ 65535 }
-    ensures { result ≡ mark_of party hop }
+#[tactic(auto, using(rules::proofs::Numbers::party_low), unfolding(rules::specs::Table::first_mark, rules::specs::Table::mark_of))]
+pub fn mark_of(party: Party, hop: u16) -> u32
+    ensures { result ≡ mark_of (party_number party) hop }
 {
-    first_mark(party) + hop
+    first_mark(party) + u32::from(hop)
 }
 
 // Whether a mark is the party's.
-pub fn is_own(party: u32, mark: u32) -> bool
-    requires { party ≤ 1 }
-    ensures { result ≡ own party mark }
+pub fn is_own(party: Party, mark: u32) -> bool
+    ensures { result ≡ own (party_number party) mark }
 {
     let first = first_mark(party);
-    first <= mark && mark <= first + 65535
+    (first..=first + 65535).contains(&mark)
 }
 
 // Whether a mark, of either party, means that its slot is occupied.
 fn is_occupied(mark: u32) -> bool
     ensures { result ≡ occupied mark }
 {
-    1 <= mark && mark <= 131072
+    (1..=131072).contains(&mark)
 }
 
 // The number of the first slot of a prefix's bucket at a length.
@@ -66,38 +65,36 @@ pub fn first_slot(settings: Settings, p: u32, length: u32) -> usize
 
 // The prefix of a slot, by its number.
 #[tactic(auto, unfolding(rules::specs::Table::prefix_at, rules::specs::Table::prefix_word, rules::specs::Table::mark_word))]
-pub fn prefix_at(slots: &[u32], slot: usize) -> u32
-    requires { mark_word slot < length slots.now }
-    ensures { result ≡ prefix_at slots.now slot }
+pub fn prefix_at<T: Cell>(slots: &[T], slot: usize) -> u32
+    requires { mark_word slot < length (T.words slots.now) }
+    ensures { result ≡ prefix_at (T.words slots.now) slot }
 {
-    slots[2 * slot]
+    T::word_at(slots, 2 * slot)
 }
 
 // The mark of a slot, by its number.
 #[tactic(auto, unfolding(rules::specs::Table::mark_at, rules::specs::Table::mark_word))]
-pub fn mark_at(slots: &[u32], slot: usize) -> u32
-    requires { mark_word slot < length slots.now }
-    ensures { result ≡ mark_at slots.now slot }
+pub fn mark_at<T: Cell>(slots: &[T], slot: usize) -> u32
+    requires { mark_word slot < length (T.words slots.now) }
+    ensures { result ≡ mark_at (T.words slots.now) slot }
 {
-    slots[2 * slot + 1]
+    T::word_at(slots, 2 * slot + 1)
 }
 
 // The mark in the word of a party's default route: the last word but one, or the last.
-pub fn default_mark(settings: Settings, slots: &[u32], party: u32) -> u32
-    requires slots { Slots settings slots.now }
-    requires party_bound { party ≤ 1 }
-    ensures { result ≡ default_mark settings slots.now party }
+pub fn default_mark<T: Cell>(settings: Settings, slots: &[T], party: Party) -> u32
+    requires { Slots settings (T.words slots.now) }
+    ensures { result ≡ default_mark settings (T.words slots.now) (party_number party) }
 {
-    slots[slots.len() - 2 + party as usize]
+    T::word_at(slots, T::word_count(slots) - 2 + party.number() as usize)
 }
 
 // Gives a party's default route a mark.
-pub fn put_default(settings: Settings, slots: &mut [u32], party: u32, mark: u32)
-    requires slots { Slots settings slots.old }
-    requires party_bound { party ≤ 1 }
-    ensures { slots.new ≡ set slots.old (default_word settings party) mark }
+pub fn put_default(settings: Settings, slots: &mut [u32], party: Party, mark: u32)
+    requires { Slots settings slots.old }
+    ensures { slots.new ≡ set slots.old (default_word settings (party_number party)) mark }
 {
-    let word = slots.len() - 2 + party as usize;
+    let word = slots.len() - 2 + party.number() as usize;
     slots[word] = mark;
 }
 
@@ -112,10 +109,9 @@ pub fn put_slot(slots: &mut [u32], slot: usize, p: u32, mark: u32)
 }
 
 // Whether a slot, by its number, is the party's and holds a prefix.
-fn holds_at(slots: &[u32], party: u32, slot: usize, p: u32) -> bool
-    requires slot_in_bounds { mark_word slot < length slots.now }
-    requires party_bound { party ≤ 1 }
-    ensures { result ≡ holding slots.now party slot p }
+fn holds_at<T: Cell>(slots: &[T], party: Party, slot: usize, p: u32) -> bool
+    requires { mark_word slot < length (T.words slots.now) }
+    ensures { result ≡ holding (T.words slots.now) (party_number party) slot p }
 {
     prefix_at(slots, slot) == p && is_own(party, mark_at(slots, slot))
 }
@@ -127,7 +123,7 @@ pub fn turn_of(settings: Settings, address: u32, lengths: u32) -> Turn
     requires some_left { lengths ≡ 0 → ⊥ }
     ensures { Turned settings address lengths result }
 {
-    let length = 32 - u32::leading_zeros(lengths);
+    let length = 32 - lengths.leading_zeros();
     let p = prefix_of(address, length);
     let first = first_slot(settings, p, length);
     let left = lengths - (1 << (length - 1));
@@ -141,26 +137,24 @@ pub fn turn_of(settings: Settings, address: u32, lengths: u32) -> Turn
 
 // Searches the buckets of an address at the lengths whose bits are set in `lengths`, from the
 // longest down, each from its lowest slot up, for a slot that is the party's and holds the prefix.
-pub fn search_buckets(
+pub fn search_buckets<T: Cell>(
     settings: Settings,
-    slots: &[u32],
-    party: u32,
+    slots: &[T],
+    party: Party,
     address: u32,
     lengths: u32,
 ) -> Place
     requires settings_value { in_range settings ≡ true }
-    requires slots { Slots settings slots.now }
-    requires party_bound { party ≤ 1 }
-    ensures { result ≡ search settings slots.now party address 0 (set_bits lengths) }
+    requires slots { Slots settings (T.words slots.now) }
+    ensures { result ≡ search settings (T.words slots.now) (party_number party) address 0 (set_bits lengths) }
 {
-    let mut found = Place::Absent(Vacancy::Full);
+    let mut found = Place::Absent(None);
     let mut left = lengths;
     let mut probes: u32 = 0;
     'lengths: while left != 0 {
         let turn = turn_of(settings, address, left);
         probes += 1;
-        let mut s: u32 = 0;
-        while s < settings.s {
+        for s in 0..settings.s {
             let slot = turn.first + s as usize;
             if holds_at(slots, party, slot, turn.p) {
                 found = Place::At {
@@ -170,35 +164,22 @@ pub fn search_buckets(
                 };
                 break 'lengths;
             }
-            s += 1;
         }
         left = turn.left;
     }
     found
 }
 
-// The free slot that was met first: an earlier one, or else this slot.
-fn first_of(vacancy: Vacancy, slot: usize) -> Vacancy
-    ensures { result ≡ or_this vacancy slot }
-{
-    match vacancy {
-        Vacancy::Free(earlier) => Vacancy::Free(earlier),
-        Vacancy::Full => Vacancy::Free(slot),
-    }
-}
-
 // Searches a prefix's own bucket at a length, from the lowest slot up to the one that is the party's and
 // holds the prefix, and keeps the first free slot on the way.
-pub fn search_bucket(settings: Settings, slots: &[u32], party: u32, p: u32, length: u32) -> Place
+pub fn search_bucket(settings: Settings, slots: &[u32], party: Party, p: u32, length: u32) -> Place
     requires ready { Ready settings length }
     requires slots { Slots settings slots.now }
-    requires party_bound { party ≤ 1 }
-    ensures { result ≡ bucket_place settings slots.now party p length }
+    ensures { result ≡ bucket_place settings slots.now (party_number party) p length }
 {
     let first = first_slot(settings, p, length);
-    let mut vacancy = Vacancy::Full;
-    let mut s: u32 = 0;
-    while s < settings.s {
+    let mut vacancy = None;
+    for s in 0..settings.s {
         let slot = first + s as usize;
         if holds_at(slots, party, slot, p) {
             return Place::At {
@@ -208,9 +189,8 @@ pub fn search_bucket(settings: Settings, slots: &[u32], party: u32, p: u32, leng
             };
         }
         if !is_occupied(mark_at(slots, slot)) {
-            vacancy = first_of(vacancy, slot);
+            vacancy = vacancy.or(Some(slot));
         }
-        s += 1;
     }
     Place::Absent(vacancy)
 }

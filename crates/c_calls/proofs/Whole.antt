@@ -2,7 +2,7 @@
 -- number and leaves all that is lent as it was.
 use Prim.Native.Nat.{ℕ}
 use mathlib.Core.Path.{◌≡◌, refl, sym, ◌∙◌}
-use mathlib.Core.Bool.{Bool, true, false, cond, not, ◌||◌, and-false, true≢false}
+use mathlib.Core.Bool.{Bool, true, false, cond, not, ◌||◌, and-false}
 use mathlib.Core.List.{List}
 use lib.Dec.{ltb, eqb}
 use lib.ListN.{length, replicate}
@@ -28,15 +28,6 @@ other_out d other = rw other
 zeros_out : list_in_range (replicate 32 0) ≡ false
 unfolding list_in_range all within
 zeros_out = refl
-
--- past the check of the settings, the list that was lent is the one that they hold
-pub lent_list : (t : Settings) (d : List ℕ) → t.d ≡ whole d → in_range t ≡ true → d ≡ t.d
-unfolding whole
-lent_list t d made range = go (eqb (length d) 32) made
-  where
-    go : (counted : Bool) → t.d ≡ cond counted d (replicate 32 0) → d ≡ t.d
-    go true same = sym same
-    go false zeros = absurd (true≢false (sym range ∙ outside t (rw zeros zeros_out)))
 
 -- settings out of range get 1, whatever is checked after
 is_1 : (t : Settings) → in_range t ≡ false → (m : Memory) (after : ℕ) → memory_refusal t m after ≡ 1

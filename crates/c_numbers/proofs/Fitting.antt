@@ -13,13 +13,11 @@ use borrow.Author.Tests.{ltb-true}
 use Rattle.rules.specs.declared.Settings.{Settings}
 use Rattle.rules.specs.declared.Place.{Place}
 use Rattle.rules.specs.Tools.{those}
-use Rattle.rules.specs.Table.{prefix, own, hop_of, default_mark, held, Memory, refuse, memory_refusal, party_refusal, route_refusal, add_refusal, withdraw_refusal, change_refusal, unless_refused, clear, add, withdraw, change, match_vector, down_from, bit_set, set_bits, vector_of, found_or, search as searched, route_answer, default_answer, place_answer, refused, answer_of, lookup, list_refusal, listed, c_list_refusal, c_lookup_list}
+use Rattle.rules.specs.Table.{prefix, own, hop_of, default_mark, held, Memory, refuse, memory_refusal, party_refusal, down_from, bit_set, set_bits, vector_of, found_or, search as searched, route_answer, default_answer, place_answer, refused, answer_of, lookup}
 use Rattle.rules.specs.Calls.{run}
 use Rattle.rules.proofs.Marks.{hop_high}
 use Rattle.rules.proofs.Updates.{held_own}
-use Rattle.difference_rules.specs.Comparing.{compared, with_count, over, difference_refusal, listing, c_difference}
 use Rattle.message_format.specs.Reading.{update_refusal, message_refusal, message_calls, counts, refused_message, apply_message as do_message}
-use Rattle.message_format.specs.Writing.{writing_refusal, write_withdrawal}
 use Rattle.message_format.proofs.Counting.{counts_fit}
 use Rattle.c_numbers.specs.Fitting.{refusals_end, RefusalFits, Fits, CountsFit}
 
@@ -35,55 +33,9 @@ refuse_fits false number n a = a
 none_fits : RefusalFits 0
 none_fits = omega arith
 
-pub memory_fits : (t : Settings) (m : Memory) → RefusalFits (memory_refusal t m 0)
-unfolding memory_refusal
-memory_fits t m = search (refuse_fits, none_fits) depth 20
-
 pub party_fits : (t : Settings) (m : Memory) (party : ℕ) → RefusalFits (party_refusal t m party 0)
 unfolding party_refusal memory_refusal
 party_fits t m party = search (refuse_fits, none_fits) depth 20
-
-pub clear_fits : (t : Settings) (m : Memory) → RefusalFits (clear t m).refusal
-unfolding clear unless_refused
-clear_fits = memory_fits
-
-pub add_fits : (t : Settings) (m : Memory) (party p L hop : ℕ) → RefusalFits (add t m party p L hop).refusal
-unfolding add unless_refused add_refusal party_refusal memory_refusal
-add_fits t m party p L hop = search (refuse_fits, none_fits) depth 20
-
-pub withdraw_fits : (t : Settings) (m : Memory) (party p L : ℕ) → RefusalFits (withdraw t m party p L).refusal
-unfolding withdraw unless_refused withdraw_refusal route_refusal party_refusal memory_refusal
-withdraw_fits t m party p L = search (refuse_fits, none_fits) depth 20
-
-pub change_fits : (t : Settings) (m : Memory) (party p L hop : ℕ) → RefusalFits (change t m party p L hop).refusal
-unfolding change unless_refused change_refusal route_refusal party_refusal memory_refusal
-change_fits t m party p L hop = search (refuse_fits, none_fits) depth 20
-
-pub list_fits : (t : Settings) (counters slots : List ℕ) (party : ℕ) (addresses results : List ℕ) → RefusalFits (c_lookup_list t counters slots party addresses results).refusal
-unfolding c_lookup_list listed c_list_refusal list_refusal party_refusal memory_refusal
-list_fits t counters slots party addresses results = search (refuse_fits, none_fits) depth 20
-
-pub writing_fits : (p L : ℕ) (room : List ℕ) → RefusalFits (write_withdrawal p L room).refusal
-unfolding write_withdrawal listed writing_refusal
-writing_fits p L room = search (refuse_fits, none_fits) depth 20
-
-pub vector_fits : (t : Settings) (m : Memory) (address : ℕ) → RefusalFits (match_vector t m address).refusal
-unfolding match_vector
-vector_fits t m address = memory_fits t m
-
--- what a comparison gives back is no refusal or that of its checks
-listing_fits : (refusal count : ℕ) (written list : List ℕ) → RefusalFits refusal → RefusalFits (listing refusal count written list).answer.refusal
-unfolding listing
-listing_fits refusal count written list fits = go (eqb refusal 0)
-  where
-    go : (b : Bool) → RefusalFits (cond b (compared (with_count 0 count) (over written list)) (compared (with_count refusal 0) list)).answer.refusal
-    go true = none_fits
-    go false = fits
-
-pub differences_fit : (t : Settings) (counters slots : List ℕ) (u : Settings) (other_counters others : List ℕ) (party : ℕ) (list : List ℕ)
-    → RefusalFits (c_difference t counters slots u other_counters others party list).answer.refusal
-unfolding c_difference difference_refusal party_refusal memory_refusal
-differences_fit t counters slots u other_counters others party list = listing_fits _ _ _ _ (search (refuse_fits, none_fits) depth 20)
 
 -- ---- Reports
 

@@ -1,7 +1,7 @@
 -- Which answers have room in a number of 64 bits.
 use Rattle.std.specs.Prelude.{ℕ, ◌^◌, ◌<◌}
-use Rattle.rules.specs.declared.Answer.{Answer}
-use Rattle.message_format.specs.declared.Report.{Report}
+use Rattle.rules.specs.Table.{Answer}
+use Rattle.message_format.specs.Reading.{Report}
 
 -- refusals are below this: they have the sixteen bits above all else in the number that crosses
 abbrev pub refusals_end : ℕ

@@ -3,55 +3,70 @@
 
 ghost use Rattle.std.specs.Prelude.{◌≡◌, ◌*◌, ◌^◌};
 ghost use Rattle.rules.specs.Table.{answer_number, vector_number};
-ghost use Rattle.difference_rules.specs.Comparing.{differences_number};
+ghost use Rattle.rules.specs.Numbers.{number_given, answer_given, vector_given};
+ghost use Rattle.difference_rules.specs.Comparing.{differences_given, differences_number};
 ghost use Rattle.message_format.specs.Reading.{report_number};
+ghost use Rattle.message_format.specs.Reports.{report_given};
 ghost use Rattle.c_numbers.specs.Fitting.{RefusalFits, Fits, CountsFit};
 
-use difference_rules::Differences;
-use lookup_answers::one_if;
 use message_format::Report;
-use rules::{Answer, Vector};
+use rules::{Lookup, Refusal, number_given};
 
 // A refusal's part of the number that every call gives back.
 pub fn refusal_part(refusal: u32) -> u64
     requires { RefusalFits refusal }
     ensures { result ≡ refusal * 2 ^ 48 }
 {
-    (refusal as u64) * 0x1_0000_0000_0000
+    u64::from(refusal) << 48
 }
 
-// An answer as one number.
-pub fn number_of_answer(answer: Answer) -> u64
-    requires { Fits answer }
-    ensures { result ≡ answer_number answer }
+// A call that gives back a refusal or nothing more, as one number.
+pub fn number_of_outcome(outcome: Result<(), Refusal>) -> u64
+    ensures { result ≡ number_given outcome * 2 ^ 48 }
 {
-    let found = (one_if(answer.found) as u64) * 0x100_0000_0000;
-    let hop = (answer.hop as u64) * 0x1_0000;
-    let length = (answer.length as u64) * 0x100;
-    refusal_part(answer.refusal) + found + hop + length + answer.probes as u64
+    refusal_part(number_given(outcome))
 }
 
-// A match vector as one number.
-pub fn number_of_vector(vector: Vector) -> u64
-    requires { RefusalFits vector.refusal }
-    ensures { result ≡ vector_number vector }
+// The answer of a lookup as one number.
+#[tactic(auto, unfolding(rules::specs::Table::answer_number, rules::specs::Table::refused, rules::specs::Table::one_if))]
+pub fn number_of_answer(answer: Result<Lookup, Refusal>) -> u64
+    requires { Fits (answer_given answer) }
+    ensures { result ≡ answer_number (answer_given answer) }
 {
-    refusal_part(vector.refusal) + vector.vector as u64
+    match answer {
+        Ok(lookup) => {
+            let route = match lookup.route {
+                Some(route) => {
+                    (1 << 40) + (u64::from(route.hop) << 16) + (u64::from(route.length) << 8)
+                }
+                None => 0,
+            };
+            route + u64::from(lookup.probes)
+        }
+        Err(refusal) => refusal_part(refusal.number()),
+    }
 }
 
-// The answer of a comparison as one number.
-pub fn number_of_differences(differences: Differences) -> u64
-    requires { RefusalFits differences.refusal }
-    ensures { result ≡ differences_number differences }
+// A word that an accepted call gives back, a match vector or the count of a comparison, as one number.
+#[tactic(auto, unfolding(rules::specs::Table::vector_number, difference_rules::specs::Comparing::differences_number))]
+pub fn number_of_word(word: Result<u32, Refusal>) -> u64
+    ensures vector { result ≡ vector_number (vector_given word) }
+    ensures count { result ≡ differences_number (differences_given word) }
 {
-    refusal_part(differences.refusal) + differences.count as u64
+    match word {
+        Ok(word) => u64::from(word),
+        Err(refusal) => refusal_part(refusal.number()),
+    }
 }
 
 // The report of a message as one number.
-pub fn number_of_report(report: Report) -> u64
-    requires { CountsFit report }
-    ensures { result ≡ report_number report }
+#[tactic(auto, unfolding(message_format::specs::Reading::report_number))]
+pub fn number_of_report(report: Result<Report, Refusal>) -> u64
+    requires { CountsFit (report_given report) }
+    ensures { result ≡ report_number (report_given report) }
 {
-    let refused = (report.refused as u64) * 0x1000;
-    refusal_part(report.refusal) + refused + report.accepted as u64
+    match report {
+        Ok(report) => (u64::from(report.refused) << 12) + u64::from(report.accepted),
+        Err(refusal) => refusal_part(refusal.number()),
+    }
 }

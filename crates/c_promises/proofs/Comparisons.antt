@@ -15,11 +15,11 @@ use Rattle.rules.specs.Tools.{all}
 use Rattle.rules.specs.Table.{Memory, lent, words, refuse, memory_refusal, party_refusal, bytes_of}
 use Rattle.rules.specs.Calls.{Call}
 use Rattle.rules.proofs.Refusals.{passed, Fitted, PartyFitted, stopped, let_by}
+use Rattle.words.specs.Laws.{four_each}
 use Rattle.difference_rules.specs.declared.Difference.{Difference}
 use Rattle.difference_rules.specs.Comparing.{Compared, compared, with_count, over, between, differences, difference_words, difference_refusal, listing, difference, differences_number, c_difference}
 use Rattle.difference_rules.proofs.Few.{four_words, few}
 use Rattle.difference_rules.proofs.Checks.{refused_listing, accepted_listing, listing_number, none_listing, checks_exchanged, checked_twice}
-use Rattle.difference_steps.proofs.Listing.{in_bytes}
 use Rattle.difference_calls.proofs.Ends.{tables_passing, tables_passed}
 use Rattle.gateway.specs.Crossing.{ComparisonCrossed}
 use Rattle.promises.specs.History.{stored_by, History}
@@ -37,6 +37,10 @@ use Rattle.c_promises.proofs.Lists.{word_again}
 
 -- ---- The bytes of a list of differences
 
+-- sixteen for each
+sixteen_bytes : (ds : List Difference) → length (bytes_of (difference_words ds)) ≡ 16 * length ds
+sixteen_bytes ds = omega (arith, four_each (difference_words ds), four_words ds)
+
 -- a word of what stands in front
 front_word : (front rest : List ℕ) (from : ℕ) → from + 3 < length front → word_at (front ++ rest) from ≡ word_at front from
 unfolding word_at
@@ -53,7 +57,7 @@ module _ (ds : List Difference) (rest : List ℕ) (i : ℕ) (there : i < length 
   its_word k from four e =
       let left = difference_words ds in
       rw e
-      (front_word (bytes_of left) rest (4 * (4 * i + k)) (omega (arith, in_bytes.size ds))
+      (front_word (bytes_of left) rest (4 * (4 * i + k)) (omega (arith, sixteen_bytes ds))
       ∙ word_again left (4 * i + k) (omega (arith, four_words ds))
       ∙ sym (get_or-take 4 (drop (4 * i) left) k 0 four ∙ get_or-drop (4 * i) left k 0)
       ∙ ap (λ (its : List ℕ). get_or its k 0) (rw append-nil at (words_place ds i there [])))
@@ -133,7 +137,7 @@ module _ (t : Settings) (counters slots : List ℕ) (u : Settings) (other_counte
       let last : List Condition = (18 when ltb (length list) (16 * length found)) ∷ [] in
       let first = lent counters (words slots) in
       let second = lent other_counters (words others) in
-      its_refusal ∙ rw (in_bytes.size found) (ap (memory_refusal t first) (party_then u second party last) ∙ memory_then t first (party_conditions u second party ++ last))
+      its_refusal ∙ rw (sixteen_bytes found) (ap (memory_refusal t first) (party_then u second party last) ∙ memory_then t first (party_conditions u second party ++ last))
 
   -- A number is given exactly if its condition is met and none is of those before it in the list.
   pub comparison_number : (k : ℕ) → 1 ≤ k → (gateway_refusal answer ≡ k) ↔ FirstMet k compared_conditions
@@ -165,7 +169,7 @@ module _ (t : Settings) (counters slots : List ℕ) (u : Settings) (other_counte
 
     -- has sixteen bytes for each of them,
     pub list_room : 16 * gateway_count answer ≤ length list
-    list_room = omega (arith, count_read, in_bytes.size found, (fitted (sym its_refusal ∙ accepted)).2)
+    list_room = omega (arith, count_read, sixteen_bytes found, (fitted (sym its_refusal ∙ accepted)).2)
 
     list_left : list' ≡ over written list
     list_left = crossed.list ∙ ap (λ c. c.list) all_given
@@ -179,7 +183,7 @@ module _ (t : Settings) (counters slots : List ℕ) (u : Settings) (other_counte
     pub rest_left : drop (16 * gateway_count answer) list' ≡ drop (16 * gateway_count answer) list
     unfolding over
     rest_left =
-        let size : length written ≡ 16 * gateway_count answer = omega (arith, count_read, in_bytes.size found) in
+        let size : length written ≡ 16 * gateway_count answer = omega (arith, count_read, sixteen_bytes found) in
         rw list_left (drop_at written _ _ size ∙ ap (λ (k : ℕ). drop k list) size)
 
   -- There are as many bytes after the call as before.
@@ -197,7 +201,7 @@ module _ {t : Settings} {m : Memory} {u : Settings} {n : Memory} {party : ℕ} {
   asked_refusal : gateway_refusal answer ≡ difference_refusal t m u n party (16 * length (between t m.slots u n.slots party)) (length list)
   unfolding checked
   asked_refusal =
-      rw (in_bytes.size, words_again m.slots, words_again n.slots) at
+      rw (sixteen_bytes, words_again m.slots, words_again n.slots) at
       (its_refusal t m.counters (bytes_of m.slots) u n.counters (bytes_of n.slots) party list answer list' asked.crossed)
 
   module _ (accepted : gateway_refusal answer ≡ 0) where

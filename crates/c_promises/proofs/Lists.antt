@@ -18,8 +18,8 @@ use Rattle.rules.specs.Table.{Memory, lent, words, refuse, fourfold, party_refus
 use Rattle.rules.specs.Calls.{Call}
 use Rattle.rules.proofs.Lists.{list_size, list_place, list_same, list_passed}
 use Rattle.rules.proofs.Refusals.{passed, PartyFitted, party_fits}
-use Rattle.c_words.proofs.Bytes.{four_each}
-use Rattle.c_words.proofs.Words.{count_whole, word_is}
+use Rattle.words.specs.Laws.{four_each}
+use Rattle.words.proofs.Words.{count_whole, word_is}
 use Rattle.message_format.proofs.Words.{byte_at}
 use Rattle.gateway.specs.Crossing.{ListCrossed}
 use Rattle.promises.specs.History.{History}

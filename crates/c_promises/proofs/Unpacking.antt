@@ -11,13 +11,12 @@ use lib.Dec.{eqb}
 use lib.ListN.{length}
 use lib.Pow.{low}
 use borrow.Author.Tests.{eq-eqb}
-use Rattle.rules.specs.declared.Answer.{Answer}
+use Rattle.rules.specs.Table.{Answer, slots_size, Memory, memory_refusal, lent, whole_words, words, one_if, answer_number, vector_number, lookup, match_vector, refused, vector_of, c_lookup, c_match_vector, bytes_of, Listed, answered}
 use Rattle.rules.specs.declared.Settings.{Settings}
-use Rattle.rules.specs.Table.{slots_size, Memory, memory_refusal, lent, whole_words, words, one_if, answer_number, vector_number, lookup, match_vector, refused, vector_of, c_lookup, c_match_vector, bytes_of, Listed, answered}
 use Rattle.rules.specs.Calls.{Call, act}
 use Rattle.rules.proofs.Vectors.{bits_lt}
-use Rattle.c_words.proofs.Bytes.{four_each}
-use Rattle.c_words.proofs.Words.{count_whole, count_none}
+use Rattle.words.specs.Laws.{four_each}
+use Rattle.words.proofs.Words.{count_whole, count_none}
 use Rattle.c_numbers.specs.Fitting.{Fits}
 use Rattle.message_format.specs.Reading.{refused_message, apply_message, report_number}
 use Rattle.message_format.proofs.Counting.{counts_fit}

@@ -1,11 +1,10 @@
 -- What a C program reads: the number that a call gives back, taken apart as include/gateway.h does it, and the bytes of a
 -- list's results or of a comparison's list. A shift to the right by n is the division by 2^n, and n low bits are kept by the remainder by 2^n.
 use Rattle.std.specs.Prelude.{ℕ, ◌+◌, ◌*◌, ◌/◌, ◌%◌, ◌^◌, List, eqb, get_or}
-use Rattle.rules.specs.declared.Answer.{Answer}
-use Rattle.rules.specs.declared.Vector.{Vector}
+use Rattle.rules.specs.Table.{Answer, Vector}
 use Rattle.difference_rules.specs.declared.Difference.{Difference}
-use Rattle.difference_rules.specs.declared.Differences.{Differences}
-use Rattle.message_format.specs.declared.Report.{Report}
+use Rattle.difference_rules.specs.Comparing.{Differences}
+use Rattle.message_format.specs.Reading.{Report}
 
 -- ---- From a number
 

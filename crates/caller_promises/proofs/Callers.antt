@@ -11,7 +11,7 @@ use mathlib.Core.List.{List, [], ◌∷◌}
 use Rattle.rules.specs.declared.Settings.{Settings}
 use Rattle.rules.specs.Table.{Memory, lookup}
 use Rattle.rules.specs.Calls.{Call, Clear, all_word_sized, run, each}
-use Rattle.message_format.specs.declared.Report.{Report}
+use Rattle.message_format.specs.Reading.{Report}
 use Rattle.promises.specs.History.{stored_by, SingleCalls, History, Ran}
 use Rattle.promises.specs.Demands.{paper}
 use Rattle.promises.specs.Parties.{no_clear, made_by, SameRoute}

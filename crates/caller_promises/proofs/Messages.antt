@@ -1,6 +1,6 @@
 -- What a caller of crates/message_calls and crates/message_writers learns is the contract's equation, as it stands. Here a
--- holds the call's arguments in their order, r is what it gives back, and end holds the arguments at exit. What the types of
--- the arguments tell, that a prefix is below 2^32 and each byte of a message below 256, whoever may make the call has.
+-- holds the call's arguments in their order, r is its result, read as what it gives back, and end holds the arguments at exit.
+-- What the types of the arguments tell, that a prefix is below 2^32 and each byte of a message below 256, whoever may make the call has.
 use Prim.Native.Nat.{ℕ}
 use mathlib.Core.Path.{◌≡◌, refl}
 use mathlib.Core.Bool.{true}
@@ -21,8 +21,9 @@ use borrow.Rule.Slice.Know.{AllWt}
 use borrow.Table.Referent.{f_int}
 use Rattle.rules.specs.declared.Settings.{Settings}
 use Rattle.rules.specs.Table.{Memory, lent, answered}
-use Rattle.message_format.specs.declared.Report.{Report}
-use Rattle.message_format.specs.Reading.{reported, apply_message as applied}
+use Rattle.rules.specs.Numbers.{number_given}
+use Rattle.message_format.specs.Reading.{Report, reported, apply_message as applied}
+use Rattle.message_format.specs.Reports.{report_given}
 use Rattle.message_format.specs.Writing.{write_withdrawal as written}
 use Rattle.caller_promises.proofs.Contracts.{owned}
 use Rattle.caller_promises.proofs.Elements.{elements_owned}
@@ -36,11 +37,11 @@ use Rattle.message_writers.proofs.write_withdrawal.Reads as written_reads
 -- ---- What a contract tells
 
 pub message_ensures : (κs : Lfts 4) (a : ArgsD apply_message.signature κs) (r : ResD apply_message.signature κs) (end : AtExit apply_message.ended κs) → message_reads.Learnt κs a r end
-    → applied a.0 (lent a.1.0.now a.1.1.0.now) a.1.1.1.0 a.1.1.1.1.0.now a.1.1.1.1.1.0.now ≡ reported r end.1.0.now end.1.1.0.now
+    → applied a.0 (lent a.1.0.now a.1.1.0.now) a.1.1.1.0 a.1.1.1.1.0.now a.1.1.1.1.1.0.now ≡ reported (report_given r) end.1.0.now end.1.1.0.now
 message_ensures κs a r end learnt = learnt
 
 pub written_ensures : (κs : Lfts 1) (a : ArgsD write_withdrawal.signature κs) (r : ResD write_withdrawal.signature κs) (end : AtExit write_withdrawal.ended κs) → written_reads.Learnt κs a r end
-    → written a.0 a.1.0 a.1.1.0.now ≡ answered r end.1.1.0.now
+    → written a.0 a.1.0 a.1.1.0.now ≡ answered (number_given r) end.1.1.0.now
 written_ensures κs a r end learnt = learnt
 
 -- ---- What the arguments' types tell
@@ -67,7 +68,7 @@ module _ (w : World) (κs : Lfts 4) (qs : Shares 4) (a : ArgsD apply_message.sig
 pub data MessageCalled : (t : Settings) (m : Memory) (party : ℕ) (message hops : List ℕ) (report : Report) (m' : Memory) → Type 0 where
   ApplyMessageCalled : (κs : Lfts 4) (a : ArgsD apply_message.signature κs) (r : ResD apply_message.signature κs) (end : AtExit apply_message.ended κs)
       → GoodsP κs message_kinds.ps a → are_bytes a.1.1.1.1.0.now ≡ true → message_reads.Learnt κs a r end
-      → MessageCalled a.0 (lent a.1.0.now a.1.1.0.now) a.1.1.1.0 a.1.1.1.1.0.now a.1.1.1.1.1.0.now r (lent end.1.0.now end.1.1.0.now)
+      → MessageCalled a.0 (lent a.1.0.now a.1.1.0.now) a.1.1.1.0 a.1.1.1.1.0.now a.1.1.1.1.1.0.now (report_given r) (lent end.1.0.now end.1.1.0.now)
 
 pub message_applied : {t : Settings} {m m' : Memory} {party : ℕ} {message hops : List ℕ} {report : Report} → MessageCalled t m party message hops report m'
     → applied t m party message hops ≡ record { report = report; memory = m' }

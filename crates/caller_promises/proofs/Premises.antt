@@ -19,7 +19,9 @@ use denote.Struct.Declared.{row}
 use denote.Struct.Field.{u8-field}
 use denote.Struct.Laws.{val}
 use borrow.Author.Tests.{ltb-true}
+use Rattle.std.specs.Prelude.{Ok, Err, Some}
 use Rattle.rules.specs.declared.Settings.{Settings}
+use Rattle.rules.specs.declared.Refusal.TheVariants.{BadRoom}
 use Rattle.rules.specs.Tools.{any, count, fed}
 use Rattle.rules.specs.Table.{Memory, lent, clear, add, lookup, answer_words, list_words, listed, fourfold, list_refusal, lookup_list}
 use Rattle.rules.specs.Calls.{Clear, Add}
@@ -98,24 +100,24 @@ two = (add T one 0 (ip 10 0 0 0) 8 5).memory
 
 pub clear_called : Called T Clear sevens 0 empty
 unfolding showing
-clear_called = ClearCalled lifetimes (T, (writing sevens.counters, (writing sevens.slots, tt))) 0 (T, (writing empty.counters, (writing empty.slots, tt)))
+clear_called = ClearCalled lifetimes (T, (writing sevens.counters, (writing sevens.slots, tt))) (Ok tt) (T, (writing empty.counters, (writing empty.slots, tt)))
     (settings_good (replicate 32 4) refl refl, ((lit< tt, lit< tt), ((lit< tt, lit< tt), tt))) refl
 
 add_called : Called T (Add 1 (ip 10 0 0 0) 8 7) empty 0 one
 unfolding showing
-add_called = AddCalled lifetimes (T, (writing empty.counters, (writing empty.slots, (1, (ip 10 0 0 0, (8, (7, tt))))))) 0 (T, (writing one.counters, (writing one.slots, (1, (ip 10 0 0 0, (8, (7, tt)))))))
+add_called = AddCalled lifetimes (T, (writing empty.counters, (writing empty.slots, (1, (ip 10 0 0 0, (8, (7, tt))))))) (Ok tt) (T, (writing one.counters, (writing one.slots, (1, (ip 10 0 0 0, (8, (7, tt)))))))
     (settings_good (replicate 32 4) refl refl, ((lit< tt, lit< tt), ((lit< tt, lit< tt), ((refl, lit< tt), ((refl, lit< tt), ((refl, lit< tt), ((refl, lit< tt), tt))))))) refl
 
 other_called : Called T (Add 0 (ip 10 0 0 0) 8 5) one 0 two
 unfolding showing
-other_called = AddCalled lifetimes (T, (writing one.counters, (writing one.slots, (0, (ip 10 0 0 0, (8, (5, tt))))))) 0 (T, (writing two.counters, (writing two.slots, (0, (ip 10 0 0 0, (8, (5, tt)))))))
+other_called = AddCalled lifetimes (T, (writing one.counters, (writing one.slots, (0, (ip 10 0 0 0, (8, (5, tt))))))) (Ok tt) (T, (writing two.counters, (writing two.slots, (0, (ip 10 0 0 0, (8, (5, tt)))))))
     (settings_good (replicate 32 4) refl refl, ((lit< tt, lit< tt), ((lit< tt, lit< tt), ((refl, lit< tt), ((refl, lit< tt), ((refl, lit< tt), ((refl, lit< tt), tt))))))) refl
 
 -- ---- Lookups
 
 looked : Looked T one 1 (ip 10 2 2 3) (lookup T one 1 (ip 10 2 2 3))
 unfolding showing
-looked = LookupCalled lifetimes (T, (lending one.counters, (lending one.slots, (1, (ip 10 2 2 3, tt))))) (lookup T one 1 (ip 10 2 2 3)) (T, (lending one.counters, (lending one.slots, (1, (ip 10 2 2 3, tt)))))
+looked = LookupCalled lifetimes (T, (lending one.counters, (lending one.slots, (1, (ip 10 2 2 3, tt))))) (Ok (record { route = Some (record { hop = 7; length = 8 }); probes = 1 })) (T, (lending one.counters, (lending one.slots, (1, (ip 10 2 2 3, tt)))))
     (settings_good (replicate 32 4) refl refl, ((lit< tt, lit< tt), ((lit< tt, lit< tt), ((refl, lit< tt), ((refl, lit< tt), tt))))) refl
 
 -- 10.2.2.3 and 11.0.0.1, and eight words for their results
@@ -136,7 +138,7 @@ addresses_sized (suc (suc i)) inside = absurd (omega arith)
 list_called : ListCalled T one 1 addresses nines 0 two_answers
 unfolding showing answer_words list_words listed fourfold list_refusal lookup_list
 list_called = LookupListCalled ([], ([], ([], ([], tt))))
-    (T, (lending one.counters, (lending one.slots, (1, (lending addresses, (writing nines, tt)))))) 0
+    (T, (lending one.counters, (lending one.slots, (1, (lending addresses, (writing nines, tt)))))) (Ok tt)
     (T, (lending one.counters, (lending one.slots, (1, (lending addresses, (writing two_answers, tt))))))
     (settings_good (replicate 32 4) refl refl, ((lit< tt, lit< tt), ((lit< tt, lit< tt), ((refl, lit< tt), ((lit< tt, lit< tt), ((lit< tt, lit< tt), tt)))))) addresses_sized refl
 
@@ -144,7 +146,7 @@ list_called = LookupListCalled ([], ([], ([], ([], tt))))
 list_short : ListCalled T empty 0 addresses (replicate 7 9) 18 (replicate 7 9)
 unfolding showing answer_words list_words listed fourfold list_refusal lookup_list
 list_short = LookupListCalled ([], ([], ([], ([], tt))))
-    (T, (lending empty.counters, (lending empty.slots, (0, (lending addresses, (writing (replicate 7 9), tt)))))) 18
+    (T, (lending empty.counters, (lending empty.slots, (0, (lending addresses, (writing (replicate 7 9), tt)))))) (Err BadRoom)
     (T, (lending empty.counters, (lending empty.slots, (0, (lending addresses, (writing (replicate 7 9), tt))))))
     (settings_good (replicate 32 4) refl refl, ((lit< tt, lit< tt), ((lit< tt, lit< tt), ((refl, lit< tt), ((lit< tt, lit< tt), ((lit< tt, lit< tt), tt)))))) addresses_sized refl
 
@@ -194,13 +196,13 @@ told = (apply_message U empty_U 1 message hops).memory
 
 clear_called_U : Called U Clear before_U 0 empty_U
 unfolding showing
-clear_called_U = ClearCalled lifetimes (U, (writing before_U.counters, (writing before_U.slots, tt))) 0 (U, (writing empty_U.counters, (writing empty_U.slots, tt)))
+clear_called_U = ClearCalled lifetimes (U, (writing before_U.counters, (writing before_U.slots, tt))) (Ok tt) (U, (writing empty_U.counters, (writing empty_U.slots, tt)))
     (settings_good U.d refl refl, ((lit< tt, lit< tt), ((lit< tt, lit< tt), tt))) refl
 
 message_called : MessageCalled U empty_U 1 message hops (record { refusal = 0; accepted = 1; refused = 1 }) told
 unfolding reading showing
 message_called = ApplyMessageCalled ([], ([], ([], ([], tt))))
-    (U, (writing empty_U.counters, (writing empty_U.slots, (1, (lending message, (lending hops, tt)))))) (record { refusal = 0; accepted = 1; refused = 1 })
+    (U, (writing empty_U.counters, (writing empty_U.slots, (1, (lending message, (lending hops, tt)))))) (Ok (record { accepted = 1; refused = 1 }))
     (U, (writing told.counters, (writing told.slots, (1, (lending message, (lending hops, tt))))))
     (settings_good U.d refl refl, ((lit< tt, lit< tt), ((lit< tt, lit< tt), ((refl, lit< tt), ((lit< tt, lit< tt), ((lit< tt, lit< tt), tt)))))) refl refl
 

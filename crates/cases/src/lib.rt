@@ -2,38 +2,38 @@
 // lent memory is damaged, copied and shown.
 #![tactic(auto)]
 
-ghost use Rattle.std.specs.Prelude.{◌≡◌, ◌≤◌, length, take};
+ghost use Rattle.std.specs.Prelude.{◌≡◌, min, take, length};
 
-use rules::Settings;
-use std::io;
+use rules::{Settings, number_given};
+use std::{fmt, io};
 
 // A case is a number in hex whose first digit says what is done. Most have a prefix, a length and a hop
-// after it; what stands there for the rest is said here. The hop's first digit has twice the party in it.
+// after it; what stands there for the rest is said where it is read. The hop's first digit has twice the
+// party in it.
+#[derive(Clone, Copy)]
+pub struct Case(pub u64);
 
-// Damage: a byte or a word to write, and its place where the hop stands.
-pub const PUT_COUNTER: u32 = 8;
-
-pub const PUT_WORD: u32 = 9;
-
-// K, D, E and S, a byte each. D is that of the length, or of every length where that is 0.
-pub const SHAPE: u32 = 10;
-
-// A, B or C.
-pub const MULTIPLIER_A: u32 = 11;
-
-pub const MULTIPLIER_B: u32 = 12;
-
-pub const MULTIPLIER_C: u32 = 13;
-
-// How many counters are lent and, where the hop stands, how many values of D to C.
-pub const LEND_COUNTERS: u32 = 14;
-
-// How many words are lent and, where the hop stands, how many bytes for them to C.
-pub const LEND_SLOTS: u32 = 15;
+// What a case sets up for the calls: damage to lent memory, the settings, and how much is lent.
+#[derive(Clone, Copy)]
+pub enum Setup {
+    // Damage: a byte or a word to write, and its place where the hop stands.
+    PutCounter,
+    PutWord,
+    // K, D, E and S, a byte each. D is that of the length, or of every length where that is 0.
+    Shape,
+    // A, B or C.
+    MultiplierA,
+    MultiplierB,
+    MultiplierC,
+    // How many counters are lent and, where the hop stands, how many values of D to C.
+    LendCounters,
+    // How many words are lent and, where the hop stands, how many bytes for them to C.
+    LendSlots,
+}
 
 // How much is lent: counters, values of D to C, words, and bytes for the words to C; whether it is C
-// alone that calls; and the party that a case names.
-#[derive(Clone, Copy)]
+// alone that calls; and the party that a case names. Before the first case nothing is lent.
+#[derive(Clone, Copy, Default)]
 pub struct Lent {
     pub counters: usize,
     pub values: usize,
@@ -43,50 +43,79 @@ pub struct Lent {
     pub party: u32,
 }
 
-// What a case does.
-pub fn what_of(case: u64) -> u32 {
-    (case / 0x1000_0000_0000_0000) as u32
+impl Case {
+    // The first digit, which says what a case does.
+    pub fn digit(self) -> u32 {
+        (self.0 / 0x1000_0000_0000_0000) as u32
+    }
+
+    // What a case sets up; none where its digit stands for what the program does.
+    pub fn setup(self) -> Option<Setup> {
+        match self.digit() {
+            0x8 => Some(Setup::PutCounter),
+            0x9 => Some(Setup::PutWord),
+            0xa => Some(Setup::Shape),
+            0xb => Some(Setup::MultiplierA),
+            0xc => Some(Setup::MultiplierB),
+            0xd => Some(Setup::MultiplierC),
+            0xe => Some(Setup::LendCounters),
+            0xf => Some(Setup::LendSlots),
+            _ => None,
+        }
+    }
+
+    // Its prefix, or what stands there.
+    pub fn prefix(self) -> u32 {
+        (self.0 / 0x1000_0000 % 0x1_0000_0000) as u32
+    }
+
+    // The last byte of what stands there.
+    pub fn byte(self) -> u8 {
+        (self.0 / 0x1000_0000 % 0x100) as u8
+    }
+
+    pub fn length(self) -> u32 {
+        (self.0 / 0x10_0000 % 0x100) as u32
+    }
+
+    // Its hop, or what stands there.
+    pub fn hop(self) -> u32 {
+        (self.0 % 0x2_0000) as u32
+    }
+
+    // The place that stands there.
+    pub fn place(self) -> usize {
+        (self.0 % 0x2_0000) as usize
+    }
+
+    // The party that it names.
+    pub fn party(self) -> u32 {
+        (self.0 / 0x2_0000 % 8) as u32
+    }
 }
 
-// A case's prefix, or what stands there.
-pub fn prefix_of(case: u64) -> u32 {
-    (case / 0x1000_0000 % 0x1_0000_0000) as u32
-}
-
-pub fn length_of(case: u64) -> u32 {
-    (case / 0x10_0000 % 0x100) as u32
-}
-
-// A case's hop, or what stands there.
-pub fn hop_of(case: u64) -> u32 {
-    (case % 0x2_0000) as u32
-}
-
-// The party that a case names.
-pub fn party_of(case: u64) -> u32 {
-    (case / 0x2_0000 % 8) as u32
+impl fmt::Display for Case {
+    fn fmt<W: fmt::Write>(&self, f: &mut fmt::Formatter<W>) -> fmt::Result {
+        write!(f, "{:016x}", self.0)
+    }
 }
 
 // Begins the line of a case.
-pub fn begin(rt: &impl Print, case: u64) -> io::Result<()> {
-    print!(rt; "{case:016x}:")
+pub fn begin(rt: &impl Print, case: Case) -> io::Result<()> {
+    print!(rt; "{case}:")
 }
 
 pub fn end(rt: &impl Print) -> io::Result<()> {
     println!(rt)
 }
 
-// Writes a number in decimal.
-pub fn number(rt: &impl Print, n: u32) -> io::Result<()> {
-    print!(rt; " {n}")
-}
-
 // Writes a number in hex: a sum, a count, or what C gets, whose parts are then whole digits.
-pub fn digits(rt: &impl Print, n: u64) -> io::Result<()> {
+pub fn digits<N: Into<u64>>(rt: &impl Print, n: N) -> io::Result<()> {
+    let n: u64 = n.into();
     print!(rt; " {n:x}")
 }
 
-// Before the first case no settings are set,
+// Before the first case no settings are set.
 pub fn none_set() -> Settings {
     Settings {
         k: 0,
@@ -96,18 +125,6 @@ pub fn none_set() -> Settings {
         a: 0,
         b: 0,
         c: 0,
-    }
-}
-
-// and nothing is lent.
-pub fn none_lent() -> Lent {
-    Lent {
-        counters: 0,
-        values: 0,
-        words: 0,
-        bytes: 0,
-        from_c: false,
-        party: 0,
     }
 }
 
@@ -124,197 +141,185 @@ pub fn small(k: u32, s: u32) -> Settings {
     }
 }
 
-// As many bytes as are lent, if there are so many.
-pub fn bytes_lent(n: usize, bytes: &[u8]) -> usize
-    ensures in_bounds { result ≤ length bytes.now }
-    ensures front { result ≡ length (take result bytes.now) }
+// As many of a list as are lent, if there are so many.
+pub fn up_to<T>(n: usize, list: &[T]) -> usize
+    ensures { result ≡ min n (length list.now) }
 {
-    if n < bytes.len() { n } else { bytes.len() }
+    n.min(list.len())
 }
 
-pub fn words_lent(n: usize, words: &[u32]) -> usize
-    ensures in_bounds { result ≤ length words.now }
-    ensures front { result ≡ length (take result words.now) }
+// The front of a list that is lent.
+pub fn front<T>(n: usize, list: &[T]) -> &[T]
+    ensures { result.now ≡ take n list.now }
 {
-    if n < words.len() { n } else { words.len() }
+    &list[..up_to(n, list)]
+}
+
+// The same of a list that is written.
+pub fn front_mut<T>(n: usize, list: &mut [T]) -> &mut [T]
+    ensures { result.now ≡ take n list.old }
+{
+    let end = up_to(n, list);
+    &mut list[..end]
 }
 
 // The settings with another D at a length, or at all.
 pub fn set_d(t: Settings, length: u32, d: u8) -> Settings {
     let mut next = t;
     if length == 0 {
-        let all = [d; 32];
-        next.d = all;
-    } else if length <= 32 {
-        next.d[(length - 1) as usize] = d;
+        next.d.fill(d);
+    } else if let Some(value) = next.d.get_mut(length as usize - 1) {
+        *value = d;
     }
     next
 }
 
 // The values of D as C lends them: one more than there are lengths, for a list that is too long.
 pub fn list_of(t: Settings) -> [u8; 33] {
-    let mut list = [4u8; 33];
-    for i in 0..32 {
-        list[i] = t.d[i];
-    }
+    let mut list = [4; 33];
+    list[..32].copy_from_slice(&t.d);
     list
 }
 
 // The settings after a case.
-pub fn set(t: Settings, case: u64) -> Settings {
-    let what = what_of(case);
-    let n = prefix_of(case);
-    let mut next = t;
-    if what == SHAPE {
-        next = set_d(t, length_of(case), (n / 0x1_0000 % 0x100) as u8);
-        next.k = n / 0x100_0000;
-        next.e = n / 0x100 % 0x100;
-        next.s = n % 0x100;
+pub fn set(t: Settings, case: Case) -> Settings {
+    let n = case.prefix();
+    match case.setup() {
+        Some(Setup::Shape) => {
+            let [k, d, e, s] = n.to_be_bytes();
+            Settings {
+                k: u32::from(k),
+                e: u32::from(e),
+                s: u32::from(s),
+                ..set_d(t, case.length(), d)
+            }
+        }
+        Some(Setup::MultiplierA) => Settings { a: n, ..t },
+        Some(Setup::MultiplierB) => Settings { b: n, ..t },
+        Some(Setup::MultiplierC) => Settings { c: n, ..t },
+        _ => t,
     }
-    if what == MULTIPLIER_A {
-        next.a = n;
-    }
-    if what == MULTIPLIER_B {
-        next.b = n;
-    }
-    if what == MULTIPLIER_C {
-        next.c = n;
-    }
-    next
 }
 
 // What is lent after a case.
-pub fn lend(lent: Lent, case: u64) -> Lent {
-    let what = what_of(case);
-    let mut next = lent;
-    next.party = party_of(case);
-    if what == LEND_COUNTERS {
-        next.counters = prefix_of(case) as usize;
-        next.values = hop_of(case) as usize;
+pub fn lend(lent: Lent, case: Case) -> Lent {
+    let next = Lent {
+        party: case.party(),
+        ..lent
+    };
+    let many = case.prefix() as usize;
+    match case.setup() {
+        Some(Setup::LendCounters) => Lent {
+            counters: many,
+            values: case.place(),
+            ..next
+        },
+        Some(Setup::LendSlots) => Lent {
+            words: many,
+            bytes: case.place(),
+            ..next
+        },
+        _ => next,
     }
-    if what == LEND_SLOTS {
-        next.words = prefix_of(case) as usize;
-        next.bytes = hop_of(case) as usize;
-    }
-    next
 }
 
-// Puts a byte at a place, if it is there.
-pub fn put_byte(bytes: &mut [u8], place: usize, byte: u8) {
-    if place < bytes.len() {
-        bytes[place] = byte;
-    }
-}
-
-// Puts a word at a place, if it is there.
-pub fn put_word(words: &mut [u32], place: usize, word: u32) {
-    if place < words.len() {
-        words[place] = word;
+// Puts a byte or a word at a place, if it is there.
+pub fn put<T: Drop>(list: &mut [T], place: usize, value: T) {
+    if let Some(there) = list.get_mut(place) {
+        *there = value;
     }
 }
 
 // Writes a byte or a word past every call.
-pub fn damage(counters: &mut [u8], slots: &mut [u32], case: u64) {
-    let what = what_of(case);
-    let n = prefix_of(case);
-    let place = hop_of(case) as usize;
-    if what == PUT_COUNTER {
-        put_byte(counters, place, (n % 0x100) as u8);
-    } else if what == PUT_WORD {
-        put_word(slots, place, n);
+pub fn damage(counters: &mut [u8], slots: &mut [u32], case: Case) {
+    match case.setup() {
+        Some(Setup::PutCounter) => put(counters, case.place(), case.byte()),
+        Some(Setup::PutWord) => put(slots, case.place(), case.prefix()),
+        _ => {}
     }
 }
 
-// Puts a word into the bytes that C lends for it, the low byte first.
-fn put_bytes(bytes: &mut [u8], place: usize, word: u32) {
-    if bytes.len() / 4 <= place {
-        return;
-    }
-    let at = 4 * place;
-    bytes[at] = (word % 0x100) as u8;
-    bytes[at + 1] = (word / 0x100 % 0x100) as u8;
-    bytes[at + 2] = (word / 0x1_0000 % 0x100) as u8;
-    bytes[at + 3] = (word / 0x100_0000) as u8;
-}
-
-// The words as the bytes that C lends for them; what is left of these stays.
+// The words as the bytes that C lends for them, the low byte first; what is left of these stays.
 pub fn copy_words(words: &[u32], bytes: &mut [u8]) {
-    let many = words.len();
-    let mut i = 0;
-    while i < many {
-        put_bytes(bytes, i, words[i]);
-        i += 1;
+    for (word, four) in words.iter().zip(bytes.chunks_exact_mut(4)) {
+        four.copy_from_slice(&word.to_le_bytes());
     }
 }
 
-// A sum of bytes in which their order counts.
-fn sum_of_bytes(rt: &impl Print, bytes: &[u8]) -> io::Result<()> {
-    let many = bytes.len();
-    let mut sum: u64 = 0;
-    let mut i = 0;
-    while i < many {
-        sum = sum % 0x100_0000_0000 * 31 + bytes[i] as u64;
-        i += 1;
-    }
-    digits(rt, sum % 0x100_0000_0000)
-}
-
-fn sum_of_words(rt: &impl Print, words: &[u32]) -> io::Result<()> {
-    let many = words.len();
-    let mut sum: u64 = 0;
-    let mut i = 0;
-    while i < many {
-        sum = sum % 0x100_0000_0000 * 31 + words[i] as u64;
-        i += 1;
-    }
-    digits(rt, sum % 0x100_0000_0000)
-}
-
-// Writes two sums, of which a byte or a word that is otherwise changes one.
-pub fn sums(rt: &impl Print, bytes: &[u8], words: &[u32]) -> io::Result<()> {
-    sum_of_bytes(rt, bytes)?;
-    sum_of_words(rt, words)
-}
-
-// Writes sums of a table, and of the front of a stream's room.
-pub fn show(rt: &impl Print, counters: &[u8], slots: &[u32], room: &[u8]) -> io::Result<()> {
-    let many = bytes_lent(256, room);
-    sums(rt, counters, slots)?;
-    sum_of_bytes(rt, &room[..many])
-}
-
-fn word(rt: &impl Print, n: u32) -> io::Result<()> {
-    digits(rt, n as u64)
-}
-
-fn list(rt: &impl Print, words: &[u32]) -> io::Result<()> {
-    let mut i = 0;
-    while i < words.len() {
-        word(rt, words[i])?;
-        i += 1;
+// Writes bytes in hex, as one word.
+pub fn hex(rt: &impl Print, bytes: &[u8]) -> io::Result<()> {
+    print!(rt; " ")?;
+    for byte in bytes {
+        print!(rt; "{byte:02x}")?;
     }
     Ok(())
 }
 
+// Writes the words of so many bytes, and one more, byte by byte.
+pub fn hex_words(rt: &impl Print, bytes: &[u8], lent: usize) -> io::Result<()> {
+    for word in bytes.chunks(4).take(lent / 4 + 1) {
+        hex(rt, word)?;
+    }
+    Ok(())
+}
+
+// A sum of a list in which the order counts.
+fn sum_of<T: Copy + Into<u64>>(rt: &impl Print, list: &[T]) -> io::Result<()> {
+    let sum = list.iter().fold(0u64, |sum, n| {
+        sum.wrapping_mul(31).wrapping_add((*n).into()) % 0x100_0000_0000
+    });
+    digits(rt, sum)
+}
+
+// Writes two sums, of which a byte or a word that is otherwise changes one.
+pub fn sums(rt: &impl Print, bytes: &[u8], words: &[u32]) -> io::Result<()> {
+    sum_of(rt, bytes)?;
+    sum_of(rt, words)
+}
+
+// Writes sums of a table, and of the front of a stream's room.
+pub fn show(rt: &impl Print, counters: &[u8], slots: &[u32], room: &[u8]) -> io::Result<()> {
+    sums(rt, counters, slots)?;
+    sum_of(rt, front(256, room))
+}
+
 // Writes each number of two lists, and ends the line.
 pub fn finish(rt: &impl Print, counts: &[u32], words: &[u32]) -> io::Result<()> {
-    list(rt, counts)?;
-    list(rt, words)?;
+    for n in counts.iter().chain(words) {
+        digits(rt, *n)?;
+    }
     end(rt)
 }
 
 // Puts bytes at the front of others, as far as there is room.
 pub fn fill(bytes: &mut [u8], front: &[u8]) {
-    let mut i = 0;
-    while i < front.len() {
-        put_byte(bytes, i, front[i]);
-        i += 1;
+    for (byte, new) in bytes.iter_mut().zip(front) {
+        *byte = *new;
     }
 }
 
 // The same, and then the byte of a case at its place.
-pub fn fill_but(bytes: &mut [u8], front: &[u8], case: u64) {
-    let place = hop_of(case) as usize;
+pub fn fill_but(bytes: &mut [u8], front: &[u8], case: Case) {
     fill(bytes, front);
-    put_byte(bytes, place, (prefix_of(case) % 0x100) as u8);
+    put(bytes, case.place(), case.byte());
+}
+
+// Adds the route of a case to a table.
+pub fn add(
+    rt: &impl Print,
+    t: Settings,
+    counters: &mut [u8],
+    slots: &mut [u32],
+    case: Case,
+) -> io::Result<()> {
+    let outcome = table::add(
+        t,
+        counters,
+        slots,
+        case.party(),
+        case.prefix(),
+        case.length(),
+        case.hop(),
+    );
+    digits(rt, number_given(outcome))
 }

@@ -4,29 +4,31 @@
 // from the rules alone: tests/cases works it out, and has no code of the crates.
 #![tactic(auto)]
 
-use cases::Lent;
-use rules::Settings;
+use cases::{Case, Lent};
+use rules::{Lookup, Settings};
 use std::io;
 
-// What a case does, beside what crates/cases has for all. For FIND and VECTOR the address stands in the
+// What a case does, beside what crates/cases sets up for all. For Find and Vector the address stands in the
 // prefix's place.
-const CLEAR: u32 = 0;
+#[derive(Clone, Copy)]
+enum Call {
+    Update(Update),
+    Find,
+    Vector,
+    // A place among the counters.
+    Counter,
+    // A place among the words.
+    Word,
+}
 
-const ADD: u32 = 1;
-
-const WITHDRAW: u32 = 2;
-
-const CHANGE: u32 = 3;
-
-const FIND: u32 = 4;
-
-const VECTOR: u32 = 5;
-
-// A place among the counters.
-const COUNTER: u32 = 6;
-
-// A place among the words.
-const WORD: u32 = 7;
+// A call that writes.
+#[derive(Clone, Copy)]
+enum Update {
+    Clear,
+    Add,
+    Withdraw,
+    Change,
+}
 
 const CASES: [u64; 553] = [
     // Settings T, and memory that was never cleared: every slot holds 0.0.0.7 with the mark 7, and
@@ -642,14 +644,22 @@ const CASES: [u64; 553] = [
     0x1_00000001_20_00004,
 ];
 
-fn flag(b: bool) -> u32 {
-    if b { 1 } else { 0 }
+// What a case does; none where crates/cases does it.
+fn call_of(case: Case) -> Option<Call> {
+    match case.digit() {
+        0 => Some(Call::Update(Update::Clear)),
+        1 => Some(Call::Update(Update::Add)),
+        2 => Some(Call::Update(Update::Withdraw)),
+        3 => Some(Call::Update(Update::Change)),
+        4 => Some(Call::Find),
+        5 => Some(Call::Vector),
+        6 => Some(Call::Counter),
+        7 => Some(Call::Word),
+        _ => None,
+    }
 }
 
-fn wide(byte: u8) -> u32 {
-    byte as u32
-}
-
+// Asks the table for a route, by its call and as C does.
 fn find(
     rt: &impl Print,
     t: Settings,
@@ -657,22 +667,34 @@ fn find(
     counters: &[u8],
     slots: &[u32],
     bytes: &[u8],
-    case: u64,
+    case: Case,
 ) -> io::Result<()> {
-    let party = cases::party_of(case);
-    let address = cases::prefix_of(case);
-    let r = table::lookup(t, counters, slots, party, address);
-    cases::number(rt, r.refusal)?;
-    cases::number(rt, flag(r.found))?;
-    cases::number(rt, r.hop)?;
-    cases::number(rt, r.length)?;
-    cases::number(rt, r.probes)?;
+    let party = case.party();
+    let address = case.prefix();
+    match table::lookup(t, counters, slots, party, address) {
+        Ok(
+            Lookup {
+                route: Some(route),
+                probes,
+            },
+        ) => {
+            print!(rt; " 0 1 {} {} {probes}", route.hop, route.length)?;
+        }
+        Ok(
+            Lookup {
+                route: None,
+                probes,
+            },
+        ) => print!(rt; " 0 0 0 0 {probes}")?,
+        Err(refusal) => print!(rt; " {} 0 0 0 0", refusal.number())?,
+    }
     let from_c = gateway::gateway_lookup(
         t.k, d, t.e, t.s, t.a, t.b, t.c, counters, bytes, party, address,
     );
     cases::digits(rt, from_c)
 }
 
+// Asks it for a match vector.
 fn vector(
     rt: &impl Print,
     t: Settings,
@@ -682,99 +704,45 @@ fn vector(
     bytes: &[u8],
     address: u32,
 ) -> io::Result<()> {
-    let r = table::match_vector(t, counters, slots, address);
-    cases::number(rt, r.refusal)?;
-    cases::number(rt, r.vector)?;
+    match table::match_vector(t, counters, slots, address) {
+        Ok(vector) => print!(rt; " 0 {vector}")?,
+        Err(refusal) => print!(rt; " {} 0", refusal.number())?,
+    }
     let from_c = gateway::gateway_match_vector(
         t.k, d, t.e, t.s, t.a, t.b, t.c, counters, bytes, address,
     );
     cases::digits(rt, from_c)
 }
 
-// Asks the table, by its call and as C does.
-fn ask(
-    rt: &impl Print,
+// Makes a call that writes, and gives back what C gets from it.
+fn act(
     t: Settings,
     d: &[u8],
-    counters: &[u8],
-    slots: &[u32],
-    bytes: &mut [u8],
-    case: u64,
-) -> io::Result<()> {
-    if cases::what_of(case) == FIND {
-        cases::copy_words(slots, bytes);
-        find(rt, t, d, counters, slots, bytes, case)
-    } else {
-        vector(rt, t, d, counters, slots, bytes, cases::prefix_of(case))
-    }
-}
-
-// Reads a place of the lent memory.
-fn read(rt: &impl Print, counters: &[u8], slots: &[u32], case: u64) -> io::Result<()> {
-    let what = cases::what_of(case);
-    let place = cases::prefix_of(case) as usize;
-    if what == COUNTER && place < counters.len() {
-        cases::number(rt, wide(counters[place]))?;
-    }
-    if what == WORD && place < slots.len() {
-        cases::number(rt, slots[place])?;
-    }
-    Ok(())
-}
-
-// Makes a call that writes, and gives back what C gets from it.
-fn act(t: Settings, d: &[u8], counters: &mut [u8], slots: &mut [u32], case: u64) -> u64 {
-    let party = cases::party_of(case);
-    let p = cases::prefix_of(case);
-    let length = cases::length_of(case);
-    let hop = cases::hop_of(case);
-    match cases::what_of(case) {
-        CLEAR => gateway::gateway_clear(t.k, d, t.e, t.s, t.a, t.b, t.c, counters, slots),
-        ADD => gateway::gateway_add(
+    counters: &mut [u8],
+    slots: &mut [u32],
+    update: Update,
+    case: Case,
+) -> u64 {
+    let party = case.party();
+    let p = case.prefix();
+    let length = case.length();
+    let hop = case.hop();
+    match update {
+        Update::Clear => gateway::gateway_clear(t.k, d, t.e, t.s, t.a, t.b, t.c, counters, slots),
+        Update::Add => gateway::gateway_add(
             t.k, d, t.e, t.s, t.a, t.b, t.c, counters, slots, party, p, length, hop,
         ),
-        WITHDRAW => gateway::gateway_withdraw(
+        Update::Withdraw => gateway::gateway_withdraw(
             t.k, d, t.e, t.s, t.a, t.b, t.c, counters, slots, party, p, length,
         ),
-        _ => gateway::gateway_change(
+        Update::Change => gateway::gateway_change(
             t.k, d, t.e, t.s, t.a, t.b, t.c, counters, slots, party, p, length, hop,
         ),
     }
 }
 
-// A call that writes, and what the lent memory then holds.
-fn update(
-    rt: &impl Print,
-    t: Settings,
-    d: &[u8],
-    counters: &mut [u8],
-    slots: &mut [u32],
-    case: u64,
-) -> io::Result<()> {
-    cases::digits(rt, act(t, d, counters, slots, case))?;
-    cases::sums(rt, counters, slots)
-}
-
-// A call, from C with so many values of D.
-fn call(
-    rt: &impl Print,
-    t: Settings,
-    values: usize,
-    counters: &mut [u8],
-    slots: &mut [u32],
-    bytes: &mut [u8],
-    case: u64,
-) -> io::Result<()> {
-    let list = cases::list_of(t);
-    let many = cases::bytes_lent(values, &list);
-    if cases::what_of(case) < FIND {
-        update(rt, t, &list[..many], counters, slots, case)
-    } else {
-        ask(rt, t, &list[..many], counters, slots, bytes, case)
-    }
-}
-
-// A case over the memory that is lent for it: a call, or a place of the memory read or damaged.
+// A case over the memory that is lent for it, to C with so many values of D: a call, or a place of the memory
+// read or damaged.
 fn make(
     rt: &impl Print,
     t: Settings,
@@ -782,15 +750,34 @@ fn make(
     counters: &mut [u8],
     slots: &mut [u32],
     bytes: &mut [u8],
-    case: u64,
+    case: Case,
 ) -> io::Result<()> {
-    if cases::what_of(case) < COUNTER {
-        call(rt, t, values, counters, slots, bytes, case)
-    } else {
-        read(rt, counters, slots, case)?;
-        cases::damage(counters, slots, case);
-        Ok(())
+    let list = cases::list_of(t);
+    let d = cases::front(values, &list);
+    let place = case.prefix() as usize;
+    match call_of(case) {
+        Some(Call::Update(update)) => {
+            cases::digits(rt, act(t, d, counters, slots, update, case))?;
+            cases::sums(rt, counters, slots)?;
+        }
+        Some(Call::Find) => {
+            cases::copy_words(slots, bytes);
+            find(rt, t, d, counters, slots, bytes, case)?;
+        }
+        Some(Call::Vector) => vector(rt, t, d, counters, slots, bytes, case.prefix())?,
+        Some(Call::Counter) => {
+            if let Some(counter) = counters.get(place) {
+                print!(rt; " {counter}")?;
+            }
+        }
+        Some(Call::Word) => {
+            if let Some(word) = slots.get(place) {
+                print!(rt; " {word}")?;
+            }
+        }
+        None => cases::damage(counters, slots, case),
     }
+    Ok(())
 }
 
 // A case over as much of the memory as is lent, and what it writes.
@@ -801,19 +788,16 @@ fn line(
     counters: &mut [u8],
     slots: &mut [u32],
     bytes: &mut [u8],
-    case: u64,
+    case: Case,
 ) -> io::Result<()> {
-    let many = cases::bytes_lent(lent.counters, counters);
-    let words = cases::words_lent(lent.words, slots);
-    let count = cases::bytes_lent(lent.bytes, bytes);
     cases::begin(rt, case)?;
     make(
         rt,
         t,
         lent.values,
-        &mut counters[..many],
-        &mut slots[..words],
-        &mut bytes[..count],
+        cases::front_mut(lent.counters, counters),
+        cases::front_mut(lent.words, slots),
+        cases::front_mut(lent.bytes, bytes),
         case,
     )?;
     cases::end(rt)
@@ -822,20 +806,18 @@ fn line(
 // The cases of a list, one after the other over the same memory.
 fn run(
     rt: &impl Print,
-    cases: &[u64],
+    numbers: &[u64],
     counters: &mut [u8],
     slots: &mut [u32],
     bytes: &mut [u8],
 ) -> io::Result<()> {
     let mut t = cases::none_set();
-    let mut lent = cases::none_lent();
-    let mut i = 0;
-    while i < cases.len() {
-        let case = cases[i];
+    let mut lent = Lent::default();
+    for number in numbers {
+        let case = Case(*number);
         t = cases::set(t, case);
         lent = cases::lend(lent, case);
         line(rt, t, lent, counters, slots, bytes, case)?;
-        i += 1;
     }
     Ok(())
 }

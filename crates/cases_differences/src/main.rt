@@ -3,27 +3,48 @@
 // from the rules alone: tests/cases works it out.
 #![tactic(auto)]
 
+use cases::Case;
 use gateway::gateway_list_differences;
 use rules::Settings;
 use std::io;
 
-// A case is a number in hex whose first digit says what follows: for an add to a table a prefix, a length and a hop, for
-// damage a word and its place among the table's slots.
-const ADD: u32 = 1;
+// What a case does, a number in hex whose first digit says it.
+#[derive(Clone, Copy)]
+enum Kind {
+    // To a table, by a prefix, a length and a hop.
+    Add(Which),
+    // To a word, which stands first, and its place among the table's slots.
+    Damage(Which),
+    // Of the two in this order: K of either, how many times 256 counters are lent of either, and how many bytes of
+    // slots of either; then the party, and how many bytes of the list. By words all that is whole in these bytes
+    // is lent.
+    Compare(Which, Which),
+}
 
-const DAMAGE: u32 = 2;
+// One of the two tables.
+#[derive(Clone, Copy)]
+enum Which {
+    First,
+    Second,
+}
 
-const ADD_TO_SECOND: u32 = 3;
+// A table, or what of it is lent.
+#[derive(Clone, Copy)]
+struct Table<'a> {
+    settings: Settings,
+    counters: &'a [u8],
+    slots: &'a [u32],
+}
 
-const DAMAGE_SECOND: u32 = 4;
+// What a comparison has: how many bytes of slots are lent of either table, the party, and how many bytes of the list.
+#[derive(Clone, Copy)]
+struct Asked {
+    slots: usize,
+    other_slots: usize,
+    party: u32,
+    list: usize,
+}
 
-// Any other case compares: the first table with the second, the second with the first, or the first with itself.
-const EXCHANGED: u32 = 6;
-
-const ITSELF: u32 = 7;
-
-// Of the two in that order: K of either, how many times 256 counters are lent of either, and how many bytes of slots of
-// either; then the party, and how many bytes of the list. By words all that is whole in these bytes is lent.
 const CASES: [u64; 95] = [
     // The same routes in both: one, the last prefix of length 32, and the default.
     0x1_0a000000_08_00007,
@@ -140,274 +161,190 @@ const CASES: [u64; 95] = [
     0x6_3_2_4_2_808_408_01_064,
 ];
 
-// The settings of the second table, but for K. Those of the first are settings T.
-fn second(k: u32) -> Settings {
-    Settings {
-        k,
-        d: [5; 32],
-        e: 3,
-        s: 1,
-        a: 7,
-        b: 3,
-        c: 5,
+fn kind_of(case: Case) -> Kind {
+    match case.digit() {
+        1 => Kind::Add(Which::First),
+        2 => Kind::Damage(Which::First),
+        3 => Kind::Add(Which::Second),
+        4 => Kind::Damage(Which::Second),
+        6 => Kind::Compare(Which::Second, Which::First),
+        7 => Kind::Compare(Which::First, Which::First),
+        _ => Kind::Compare(Which::First, Which::Second),
     }
 }
 
-fn show_byte(rt: &impl Print, byte: u8, i: usize) -> io::Result<()> {
-    if i % 4 == 0 {
-        print!(rt; " ")?;
+// The settings of a table, but for K. Those of the first are settings T.
+fn settings_of(which: Which, k: u32) -> Settings {
+    match which {
+        Which::First => cases::small(k, 2),
+        Which::Second => Settings {
+            k,
+            d: [5; 32],
+            e: 3,
+            s: 1,
+            a: 7,
+            b: 3,
+            c: 5,
+        },
     }
-    print!(rt; "{byte:02x}")
 }
 
-// The words of so many bytes, and one more.
-fn show(rt: &impl Print, list: &[u8; 312], lent: usize) -> io::Result<()> {
-    let mut i = 0;
-    while i < list.len() {
-        if i / 4 <= lent / 4 {
-            show_byte(rt, list[i], i)?;
-        }
-        i += 1;
-    }
-    Ok(())
-}
-
-fn show_words(rt: &impl Print, words: &[u32; 78], lent: usize) -> io::Result<()> {
-    let mut list = [0u8; 312];
-    cases::copy_words(words, &mut list);
-    show(rt, &list, lent)
-}
-
-// Compares as C does, with the bytes of slots that are lent.
-fn ask_from_c(
-    rt: &impl Print,
-    t: Settings,
-    counters: &[u8],
-    slots: &[u8],
-    u: Settings,
-    counters2: &[u8],
-    slots2: &[u8],
-    case: u64,
-) -> io::Result<()> {
-    let d = t.d;
-    let d2 = u.d;
-    let party = (case / 0x1000 % 0x100) as u32;
+// Compares as C does.
+fn from_c(rt: &impl Print, one: Table<'_>, other: Table<'_>, asked: Asked) -> io::Result<()> {
+    let mut slots = [0u8; 2060];
+    cases::copy_words(one.slots, &mut slots);
+    let mut other_slots = [0u8; 2060];
+    cases::copy_words(other.slots, &mut other_slots);
     let mut list = [0xaau8; 312];
-    let end = cases::bytes_lent((case % 0x1000) as usize, &list);
-    let l = &mut list[..end];
+    let t = one.settings;
+    let u = other.settings;
     let answer = gateway_list_differences(
-        t.k, &d, t.e, t.s, t.a, t.b, t.c, counters, slots, u.k, &d2, u.e, u.s, u.a, u.b, u.c,
-        counters2, slots2, party, l,
+        t.k,
+        &t.d,
+        t.e,
+        t.s,
+        t.a,
+        t.b,
+        t.c,
+        one.counters,
+        cases::front(asked.slots, &slots),
+        u.k,
+        &u.d,
+        u.e,
+        u.s,
+        u.a,
+        u.b,
+        u.c,
+        other.counters,
+        cases::front(asked.other_slots, &other_slots),
+        asked.party,
+        cases::front_mut(asked.list, &mut list),
     );
     cases::digits(rt, answer)?;
-    show(rt, &list, (case % 0x1000) as usize)
+    cases::hex_words(rt, &list, asked.list)
 }
 
-// Compares by words, with those that are lent.
-fn ask_by_words(
-    rt: &impl Print,
-    t: Settings,
-    counters: &[u8],
-    slots: &[u32],
-    u: Settings,
-    counters2: &[u8],
-    slots2: &[u32],
-    case: u64,
-) -> io::Result<()> {
-    let party = (case / 0x1000 % 0x100) as u32;
+// Compares by the whole words of the bytes that are lent to C.
+fn by_words(rt: &impl Print, one: Table<'_>, other: Table<'_>, asked: Asked) -> io::Result<()> {
     let mut list = [0xaaaaaaaau32; 78];
-    let end = cases::words_lent((case % 0x1000 / 4) as usize, &list);
-    let l = &mut list[..end];
-    let r = difference_calls::difference(t, counters, slots, u, counters2, slots2, party, l);
-    cases::digits(rt, r.refusal as u64)?;
-    cases::digits(rt, r.count as u64)?;
-    show_words(rt, &list, (case % 0x1000) as usize)
+    let outcome = difference_calls::difference(
+        one.settings,
+        one.counters,
+        cases::front(asked.slots / 4, one.slots),
+        other.settings,
+        other.counters,
+        cases::front(asked.other_slots / 4, other.slots),
+        asked.party,
+        cases::front_mut(asked.list / 4, &mut list),
+    );
+    match outcome {
+        Ok(count) => print!(rt; " 0 {count:x}")?,
+        Err(refusal) => print!(rt; " {:x} 0", refusal.number())?,
+    }
+    let mut written = [0u8; 312];
+    cases::copy_words(&list, &mut written);
+    cases::hex_words(rt, &written, asked.list)
 }
 
-// Lends the slots as bytes,
-fn from_c(
-    rt: &impl Print,
-    t: Settings,
-    counters: &[u8],
-    slots: &[u32],
-    u: Settings,
-    counters2: &[u8],
-    slots2: &[u32],
-    case: u64,
-) -> io::Result<()> {
-    let mut bytes = [0u8; 2060];
-    cases::copy_words(slots, &mut bytes);
-    let mut bytes2 = [0u8; 2060];
-    cases::copy_words(slots2, &mut bytes2);
-    let end = cases::bytes_lent((case / 0x1_0000_0000 % 0x1000) as usize, &bytes);
-    let end2 = cases::bytes_lent((case / 0x10_0000 % 0x1000) as usize, &bytes2);
-    ask_from_c(
-        rt,
-        t,
-        counters,
-        &bytes[..end],
-        u,
-        counters2,
-        &bytes2[..end2],
-        case,
-    )
+// Compares two tables both ways, each with the counters that are lent.
+fn compare(rt: &impl Print, one: Table<'_>, other: Table<'_>, case: Case) -> io::Result<()> {
+    let many = (case.0 / 0x1_0000_0000_0000 % 0x10 * 256) as usize;
+    let other_many = (case.0 / 0x1000_0000_0000 % 0x10 * 256) as usize;
+    let one = Table {
+        counters: cases::front(many, one.counters),
+        ..one
+    };
+    let other = Table {
+        counters: cases::front(other_many, other.counters),
+        ..other
+    };
+    let asked = Asked {
+        slots: (case.0 / 0x1_0000_0000 % 0x1000) as usize,
+        other_slots: (case.0 / 0x10_0000 % 0x1000) as usize,
+        party: (case.0 / 0x1000 % 0x100) as u32,
+        list: (case.0 % 0x1000) as usize,
+    };
+    from_c(rt, one, other, asked)?;
+    by_words(rt, one, other, asked)
 }
 
-// and as words.
-fn by_words(
-    rt: &impl Print,
-    t: Settings,
-    counters: &[u8],
-    slots: &[u32],
-    u: Settings,
-    counters2: &[u8],
-    slots2: &[u32],
-    case: u64,
-) -> io::Result<()> {
-    let end = cases::words_lent((case / 0x1_0000_0000 % 0x1000 / 4) as usize, slots);
-    let end2 = cases::words_lent((case / 0x10_0000 % 0x1000 / 4) as usize, slots2);
-    ask_by_words(
-        rt,
-        t,
-        counters,
-        &slots[..end],
-        u,
-        counters2,
-        &slots2[..end2],
-        case,
-    )
-}
-
-// Lends the counters, and compares both ways.
-fn compare(
-    rt: &impl Print,
-    t: Settings,
-    counters: &[u8],
-    slots: &[u32],
-    u: Settings,
-    counters2: &[u8],
-    slots2: &[u32],
-    case: u64,
-) -> io::Result<()> {
-    let end = cases::bytes_lent((case / 0x1_0000_0000_0000 % 0x10 * 256) as usize, counters);
-    let end2 = cases::bytes_lent((case / 0x1000_0000_0000 % 0x10 * 256) as usize, counters2);
-    let c = &counters[..end];
-    let c2 = &counters2[..end2];
-    from_c(rt, t, c, slots, u, c2, slots2, case)?;
-    by_words(rt, t, c, slots, u, c2, slots2, case)
-}
-
-// Compares in the order that the case has.
-fn ask(
-    rt: &impl Print,
-    counters: &[u8],
-    slots: &[u32],
-    counters2: &[u8],
-    slots2: &[u32],
-    case: u64,
-) -> io::Result<()> {
-    let what = cases::what_of(case);
-    let k = (case / 0x100_0000_0000_0000 % 0x10) as u32;
-    let k2 = (case / 0x10_0000_0000_0000 % 0x10) as u32;
-    if what == EXCHANGED {
-        compare(
-            rt,
-            second(k),
-            counters2,
-            slots2,
-            cases::small(k2, 2),
+// One of the two tables, with K.
+fn pick<'a>(
+    which: Which,
+    k: u32,
+    counters: &'a [u8],
+    slots: &'a [u32],
+    counters2: &'a [u8],
+    slots2: &'a [u32],
+) -> Table<'a> {
+    let settings = settings_of(which, k);
+    match which {
+        Which::First => Table {
+            settings,
             counters,
             slots,
-            case,
-        )
-    } else if what == ITSELF {
-        compare(
-            rt,
-            cases::small(k, 2),
-            counters,
-            slots,
-            cases::small(k2, 2),
-            counters,
-            slots,
-            case,
-        )
-    } else {
-        compare(
-            rt,
-            cases::small(k, 2),
-            counters,
-            slots,
-            second(k2),
-            counters2,
-            slots2,
-            case,
-        )
+        },
+        Which::Second => Table {
+            settings,
+            counters: counters2,
+            slots: slots2,
+        },
     }
 }
 
-// Adds a route, or else damages a word.
-fn act(
-    rt: &impl Print,
-    t: Settings,
-    counters: &mut [u8],
-    slots: &mut [u32],
-    case: u64,
-    adds: bool,
-) -> io::Result<()> {
-    let p = cases::prefix_of(case);
-    let length = cases::length_of(case);
-    let hop = cases::hop_of(case);
-    let party = cases::party_of(case);
-    if adds {
-        cases::digits(
-            rt,
-            table::add(t, counters, slots, party, p, length, hop) as u64,
-        )?;
-    } else {
-        cases::put_word(slots, hop as usize, p);
-    }
-    Ok(())
-}
-
+// A case, and what it writes.
 fn line(
     rt: &impl Print,
     counters: &mut [u8],
     slots: &mut [u32],
     counters2: &mut [u8],
     slots2: &mut [u32],
-    case: u64,
+    case: Case,
 ) -> io::Result<()> {
-    let what = cases::what_of(case);
-    cases::begin(rt, case)?;
-    if what <= DAMAGE {
-        act(rt, cases::small(2, 2), counters, slots, case, what == ADD)
-    } else if what <= DAMAGE_SECOND {
-        act(
+    match kind_of(case) {
+        Kind::Add(Which::First) => cases::add(
             rt,
-            second(3),
+            settings_of(Which::First, 2),
+            counters,
+            slots,
+            case,
+        )?,
+        Kind::Add(Which::Second) => cases::add(
+            rt,
+            settings_of(Which::Second, 3),
             counters2,
             slots2,
             case,
-            what == ADD_TO_SECOND,
-        )
-    } else {
-        ask(rt, counters, slots, counters2, slots2, case)
+        )?,
+        Kind::Damage(Which::First) => cases::put(slots, case.place(), case.prefix()),
+        Kind::Damage(Which::Second) => cases::put(slots2, case.place(), case.prefix()),
+        Kind::Compare(one, other) => {
+            let k = (case.0 / 0x100_0000_0000_0000 % 0x10) as u32;
+            let other_k = (case.0 / 0x10_0000_0000_0000 % 0x10) as u32;
+            compare(
+                rt,
+                pick(one, k, counters, slots, counters2, slots2),
+                pick(other, other_k, counters, slots, counters2, slots2),
+                case,
+            )?;
+        }
     }
+    Ok(())
 }
 
 fn run(
     rt: &impl Print,
-    cases: &[u64],
+    numbers: &[u64],
     counters: &mut [u8],
     slots: &mut [u32],
     counters2: &mut [u8],
     slots2: &mut [u32],
 ) -> io::Result<()> {
-    let mut i = 0;
-    while i < cases.len() {
-        line(rt, counters, slots, counters2, slots2, cases[i])?;
+    for number in numbers {
+        let case = Case(*number);
+        cases::begin(rt, case)?;
+        line(rt, counters, slots, counters2, slots2, case)?;
         cases::end(rt)?;
-        i += 1;
     }
     Ok(())
 }

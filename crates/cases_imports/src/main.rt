@@ -3,31 +3,29 @@
 // file stdout comes from the rules alone: tests/cases works it out.
 #![tactic(auto)]
 
+use cases::Case;
+use rules::number_given;
 use std::io;
 
-// What a case does. Zeros for the stream's words and the counts, and a table that is cleared.
-const BEGIN: u32 = 0;
-
-// The bytes of the dump from a place on and, where the hop stands, how many, for a party.
-const CHUNK: u32 = 2;
-
-const END: u32 = 3;
-
-// A number for one of the stream's words, for a count or for a next hop, and its place where the hop stands.
-const WORD: u32 = 4;
-
-const COUNT: u32 = 5;
-
-const HOP: u32 = 6;
-
-// From here on the calls are C's.
-const FROM_C: u32 = 7;
-
-// A byte for the room, and its place where the hop stands.
-const ROOM: u32 = 8;
-
-// How many counters are lent, K and, where the hop stands, how many words are lent.
-const LEND: u32 = 9;
+// What a case does, a number in hex whose first digit says it.
+#[derive(Clone, Copy)]
+enum Kind {
+    // Zeros for the stream's words and the counts, and a table that is cleared.
+    Begin,
+    // The bytes of the dump from a place on and, where the hop stands, how many, for a party.
+    Chunk,
+    End,
+    // A number for one of the stream's words, for a count or for a next hop, and its place where the hop stands.
+    Word,
+    Count,
+    Hop,
+    // From here on the calls are C's.
+    FromC,
+    // A byte for the room, and its place where the hop stands.
+    Room,
+    // How many counters are lent, K and, where the hop stands, how many words are lent.
+    Lend,
+}
 
 // The dump begins with these records, and goes on with zeros. Where they start:
 //   0: A record of peers.
@@ -654,22 +652,44 @@ struct Lent {
     party: u32,
 }
 
-// What is lent after a case.
-fn lend(lent: Lent, case: u64) -> Lent {
-    let what = cases::what_of(case);
-    let mut next = lent;
-    next.party = cases::party_of(case);
-    if what == LEND {
-        next.k = cases::length_of(case);
-        next.counters = cases::prefix_of(case) as usize;
-        next.slots = cases::hop_of(case) as usize;
+// What a case does; none where its digit stands for nothing.
+fn kind_of(case: Case) -> Option<Kind> {
+    match case.digit() {
+        0 => Some(Kind::Begin),
+        2 => Some(Kind::Chunk),
+        3 => Some(Kind::End),
+        4 => Some(Kind::Word),
+        5 => Some(Kind::Count),
+        6 => Some(Kind::Hop),
+        7 => Some(Kind::FromC),
+        8 => Some(Kind::Room),
+        9 => Some(Kind::Lend),
+        _ => None,
     }
-    if what == FROM_C {
-        next.from_c = true;
-    }
-    next
 }
 
+// What is lent after a case.
+fn lend(lent: Lent, case: Case) -> Lent {
+    let next = Lent {
+        party: case.party(),
+        ..lent
+    };
+    match kind_of(case) {
+        Some(Kind::Lend) => Lent {
+            k: case.length(),
+            counters: case.prefix() as usize,
+            slots: case.place(),
+            ..next
+        },
+        Some(Kind::FromC) => Lent {
+            from_c: true,
+            ..next
+        },
+        _ => next,
+    }
+}
+
+// A chunk, by the crates' own call or as C calls it.
 fn take(
     rt: &impl Print,
     lent: Lent,
@@ -693,7 +713,7 @@ fn take(
         let number = import_calls::import_chunk(
             t, counters, slots, lent.party, hops, counts, words, room, chunk,
         );
-        cases::digits(rt, number as u64)
+        cases::digits(rt, number)
     }
 }
 
@@ -708,23 +728,19 @@ fn chunk(
     words: &mut [u32; 3],
     room: &mut [u8; 65548],
     dump: &[u8],
-    case: u64,
+    case: Case,
 ) -> io::Result<()> {
-    let bytes = cases::bytes_lent(lent.counters, counters);
-    let whole = cases::words_lent(lent.slots, slots);
-    let from = cases::bytes_lent(cases::prefix_of(case) as usize, dump);
-    let rest = &dump[from..];
-    let many = cases::bytes_lent(cases::hop_of(case) as usize, rest);
+    let from = cases::up_to(case.prefix() as usize, dump);
     take(
         rt,
         lent,
-        &mut counters[..bytes],
-        &mut slots[..whole],
+        cases::front_mut(lent.counters, counters),
+        cases::front_mut(lent.slots, slots),
         hops,
         counts,
         words,
         room,
-        &rest[..many],
+        cases::front(case.place(), &dump[from..]),
     )?;
     cases::show(rt, counters, slots, room)
 }
@@ -733,39 +749,7 @@ fn end(rt: &impl Print, from_c: bool, words: &mut [u32; 3]) -> io::Result<()> {
     if from_c {
         cases::digits(rt, gateway::gateway_end_stream(words))
     } else {
-        cases::digits(rt, stream_records::end_stream(words) as u64)
-    }
-}
-
-fn begin(
-    rt: &impl Print,
-    counters: &mut [u8],
-    slots: &mut [u32],
-    counts: &mut [u32; 3],
-    words: &mut [u32; 3],
-) -> io::Result<()> {
-    cases::digits(rt, table::clear(cases::small(2, 2), counters, slots) as u64)?;
-    *counts = [0, 0, 0];
-    *words = [0, 0, 0];
-    Ok(())
-}
-
-// A case that calls nothing.
-fn prepare(
-    hops: &mut [u32; 8],
-    counts: &mut [u32; 3],
-    words: &mut [u32; 3],
-    room: &mut [u8; 65548],
-    case: u64,
-) {
-    let n = cases::prefix_of(case);
-    let place = cases::hop_of(case) as usize;
-    match cases::what_of(case) {
-        WORD => cases::put_word(words, place, n),
-        COUNT => cases::put_word(counts, place, n),
-        HOP => cases::put_word(hops, place, n),
-        ROOM => cases::put_byte(room, place, (n % 0x100) as u8),
-        _ => {}
+        cases::digits(rt, stream_records::end_stream(words))
     }
 }
 
@@ -780,16 +764,27 @@ fn line(
     words: &mut [u32; 3],
     room: &mut [u8; 65548],
     dump: &[u8],
-    case: u64,
+    case: Case,
 ) -> io::Result<()> {
+    let n = case.prefix();
+    let place = case.place();
     cases::begin(rt, case)?;
-    match cases::what_of(case) {
-        BEGIN => begin(rt, counters, slots, counts, words)?,
-        CHUNK => chunk(
+    match kind_of(case) {
+        Some(Kind::Begin) => {
+            let outcome = table::clear(cases::small(2, 2), counters, slots);
+            cases::digits(rt, number_given(outcome))?;
+            *counts = [0; 3];
+            *words = [0; 3];
+        }
+        Some(Kind::Chunk) => chunk(
             rt, lent, counters, slots, hops, counts, words, room, dump, case,
         )?,
-        END => end(rt, lent.from_c, words)?,
-        _ => prepare(hops, counts, words, room, case),
+        Some(Kind::End) => end(rt, lent.from_c, words)?,
+        Some(Kind::Word) => cases::put(words, place, n),
+        Some(Kind::Count) => cases::put(counts, place, n),
+        Some(Kind::Hop) => cases::put(hops, place, n),
+        Some(Kind::Room) => cases::put(room, place, case.byte()),
+        Some(Kind::FromC) | Some(Kind::Lend) | None => {}
     }
     cases::finish(rt, counts, words)
 }
@@ -797,7 +792,7 @@ fn line(
 // The cases of a list, one after the other over the same memory.
 fn run(
     rt: &impl Print,
-    cases: &[u64],
+    numbers: &[u64],
     counters: &mut [u8; 512],
     slots: &mut [u32; 258],
     hops: &mut [u32; 8],
@@ -813,14 +808,12 @@ fn run(
         from_c: false,
         party: 0,
     };
-    let mut i = 0;
-    while i < cases.len() {
-        let case = cases[i];
+    for number in numbers {
+        let case = Case(*number);
         lent = lend(lent, case);
         line(
             rt, lent, counters, slots, hops, counts, words, room, dump, case,
         )?;
-        i += 1;
     }
     Ok(())
 }

@@ -3,22 +3,25 @@
 // file stdout comes from the rules alone: tests/cases works it out.
 #![tactic(auto)]
 
+use cases::Case;
 use gateway::gateway_lookup_list;
-use rules::Settings;
+use rules::{Settings, number_given};
 use std::io;
 
-// A case is a number in hex whose first digit says what follows: for an add a prefix, a length and a
-// hop, for damage a word and its place among the slots.
-const ADD: u32 = 1;
+// What a case does, a number in hex whose first digit says it.
+#[derive(Clone, Copy)]
+enum Kind {
+    // A prefix, a length and a hop follow.
+    Add,
+    // A word, and its place among the slots.
+    Damage,
+    // A D and its length, and how many values of D are lent to C, and counters to an add.
+    Filter,
+    // K, where the rest is settings T but for what was set, how many bytes C lends of addresses, results and
+    // counters, the party, and how many bytes C lends of slots. The table is lent the whole words of them.
+    Ask,
+}
 
-const DAMAGE: u32 = 2;
-
-// A D and its length, and how many values of D are lent to C, and counters to an add.
-const FILTER: u32 = 4;
-
-// Any other case asks: K, where the rest is settings T but for what was set, how many bytes C lends of
-// addresses, results and counters, the party, and how many bytes C lends of slots. The table is lent the whole words
-// of them.
 const CASES: [u64; 61] = [
     // With 10.0.0.0/8 stored: no address, one, and those of P4 to P7.
     0x1_0a000000_08_00007,
@@ -106,88 +109,36 @@ struct Lent {
     counters: usize,
 }
 
-// The settings after a case.
-fn set(t: Settings, case: u64) -> Settings {
-    if cases::what_of(case) != FILTER {
-        return t;
-    }
-    let length = (case / 0x1000_0000_0000 % 0x100) as u32;
-    cases::set_d(t, length, (case / 0x10_0000_0000_0000 % 0x100) as u8)
+// What a case that asks has: the party, and how many bytes are lent of addresses, results and slots.
+#[derive(Clone, Copy)]
+struct Asked {
+    party: u32,
+    addresses: usize,
+    results: usize,
+    slots: usize,
 }
 
-// What is lent after a case.
-fn lend(lent: Lent, case: u64) -> Lent {
-    if cases::what_of(case) != FILTER {
-        return lent;
+fn kind_of(case: Case) -> Kind {
+    match case.digit() {
+        1 => Kind::Add,
+        2 => Kind::Damage,
+        4 => Kind::Filter,
+        _ => Kind::Ask,
     }
+}
+
+// The settings after a case of a filter.
+fn set(t: Settings, case: Case) -> Settings {
+    let length = (case.0 / 0x1000_0000_0000 % 0x100) as u32;
+    cases::set_d(t, length, (case.0 / 0x10_0000_0000_0000 % 0x100) as u8)
+}
+
+// What is lent after it.
+fn lend(case: Case) -> Lent {
     Lent {
-        values: (case / 0x10_0000_0000 % 0x100) as usize,
-        counters: (case % 0x10_0000_0000) as usize,
+        values: (case.0 / 0x10_0000_0000 % 0x100) as usize,
+        counters: (case.0 % 0x10_0000_0000) as usize,
     }
-}
-
-fn show_byte(rt: &impl Print, byte: u8, i: usize) -> io::Result<()> {
-    if i % 4 == 0 {
-        print!(rt; " ")?;
-    }
-    print!(rt; "{byte:02x}")
-}
-
-// The words of so many bytes, and one more.
-fn show(rt: &impl Print, bytes: &[u8; 96], lent: usize) -> io::Result<()> {
-    let mut i = 0;
-    while i < bytes.len() {
-        if i / 4 <= lent / 4 {
-            show_byte(rt, bytes[i], i)?;
-        }
-        i += 1;
-    }
-    Ok(())
-}
-
-fn show_words(rt: &impl Print, words: &[u32; 24], lent: usize) -> io::Result<()> {
-    let mut bytes = [0u8; 96];
-    cases::copy_words(words, &mut bytes);
-    show(rt, &bytes, lent)
-}
-
-fn ask_table(
-    rt: &impl Print,
-    t: Settings,
-    counters: &[u8],
-    slots: &[u32],
-    party: u32,
-    list: &[u32],
-    lent: usize,
-) -> io::Result<()> {
-    let mut results = [0xaaaaaaaau32; 24];
-    let end = cases::words_lent(lent / 4, &results);
-    let r = &mut results[..end];
-    cases::digits(
-        rt,
-        table::lookup_list(t, counters, slots, party, list, r) as u64,
-    )?;
-    show_words(rt, &results, lent)
-}
-
-fn ask_from_c(
-    rt: &impl Print,
-    t: Settings,
-    d: &[u8],
-    counters: &[u8],
-    slots: &[u8],
-    party: u32,
-    list: &[u8],
-    lent: usize,
-) -> io::Result<()> {
-    let mut results = [0xaau8; 96];
-    let end = cases::bytes_lent(lent, &results);
-    let r = &mut results[..end];
-    let refusal = gateway_lookup_list(
-        t.k, d, t.e, t.s, t.a, t.b, t.c, counters, slots, party, list, r,
-    );
-    cases::digits(rt, refusal)?;
-    show(rt, &results, lent)
 }
 
 // Asks the table, which is lent the whole words of so many bytes of slots and addresses.
@@ -196,22 +147,21 @@ fn ask_words(
     t: Settings,
     counters: &[u8],
     slots: &[u32],
-    places: usize,
-    party: u32,
-    addresses: usize,
-    lent: usize,
+    asked: Asked,
 ) -> io::Result<()> {
-    let end = cases::words_lent(places / 4, slots);
-    let count = cases::words_lent(addresses / 4, &ADDRESSES);
-    ask_table(
-        rt,
+    let mut results = [0xaaaaaaaau32; 24];
+    let outcome = table::lookup_list(
         t,
         counters,
-        &slots[..end],
-        party,
-        &ADDRESSES[..count],
-        lent,
-    )
+        cases::front(asked.slots / 4, slots),
+        asked.party,
+        cases::front(asked.addresses / 4, &ADDRESSES),
+        cases::front_mut(asked.results / 4, &mut results),
+    );
+    cases::digits(rt, number_given(outcome))?;
+    let mut bytes = [0u8; 96];
+    cases::copy_words(&results, &mut bytes);
+    cases::hex_words(rt, &bytes, asked.results)
 }
 
 // Asks as C does, with so many bytes of slots and addresses.
@@ -221,131 +171,81 @@ fn ask_bytes(
     d: &[u8],
     counters: &[u8],
     slots: &[u32],
-    places: usize,
-    party: u32,
-    addresses: usize,
-    lent: usize,
+    asked: Asked,
 ) -> io::Result<()> {
     let mut bytes = [0u8; 1036];
     cases::copy_words(slots, &mut bytes);
     let mut list = [0u8; 20];
     cases::copy_words(&ADDRESSES, &mut list);
-    let end = cases::bytes_lent(places, &bytes);
-    let count = cases::bytes_lent(addresses, &list);
-    ask_from_c(
-        rt,
-        t,
+    let mut results = [0xaau8; 96];
+    let refusal = gateway_lookup_list(
+        t.k,
         d,
+        t.e,
+        t.s,
+        t.a,
+        t.b,
+        t.c,
         counters,
-        &bytes[..end],
-        party,
-        &list[..count],
-        lent,
-    )
+        cases::front(asked.slots, &bytes),
+        asked.party,
+        cases::front(asked.addresses, &list),
+        cases::front_mut(asked.results, &mut results),
+    );
+    cases::digits(rt, refusal)?;
+    cases::hex_words(rt, &results, asked.results)
 }
 
+// Asks both ways, with so many values of D to C.
 fn ask(
     rt: &impl Print,
     settings: Settings,
     values: usize,
     counters: &[u8],
     slots: &[u32],
-    case: u64,
+    case: Case,
 ) -> io::Result<()> {
-    let mut t = settings;
-    t.k = (case / 0x10_0000_0000_0000 % 0x100) as u32;
-    let addresses = (case / 0x100_0000_0000 % 0x1000) as usize;
-    let lent = (case / 0x1000_0000 % 0x1000) as usize;
-    let places = (case % 0x1000) as usize;
-    let party = (case / 0x1000 % 0x10) as u32;
-    let end = cases::bytes_lent((case / 0x1_0000 % 0x1000) as usize, counters);
-    let d = cases::list_of(t);
-    let many = cases::bytes_lent(values, &d);
-    ask_words(
-        rt,
-        t,
-        &counters[..end],
-        slots,
-        places,
-        party,
-        addresses,
-        lent,
-    )?;
-    ask_bytes(
-        rt,
-        t,
-        &d[..many],
-        &counters[..end],
-        slots,
-        places,
-        party,
-        addresses,
-        lent,
-    )
+    let t = Settings {
+        k: (case.0 / 0x10_0000_0000_0000 % 0x100) as u32,
+        ..settings
+    };
+    let asked = Asked {
+        party: (case.0 / 0x1000 % 0x10) as u32,
+        addresses: (case.0 / 0x100_0000_0000 % 0x1000) as usize,
+        results: (case.0 / 0x1000_0000 % 0x1000) as usize,
+        slots: (case.0 % 0x1000) as usize,
+    };
+    let lent = cases::front((case.0 / 0x1_0000 % 0x1000) as usize, counters);
+    let list = cases::list_of(t);
+    ask_words(rt, t, lent, slots, asked)?;
+    ask_bytes(rt, t, cases::front(values, &list), lent, slots, asked)
 }
 
-fn add(
-    rt: &impl Print,
-    t: Settings,
-    lent: Lent,
-    counters: &mut [u8],
-    slots: &mut [u32],
-    case: u64,
-) -> io::Result<()> {
-    let p = cases::prefix_of(case);
-    let length = cases::length_of(case);
-    let hop = cases::hop_of(case);
-    let end = cases::bytes_lent(lent.counters, counters);
-    let party = cases::party_of(case);
-    let c = &mut counters[..end];
-    cases::digits(rt, table::add(t, c, slots, party, p, length, hop) as u64)
-}
-
-fn act(
-    rt: &impl Print,
-    t: Settings,
-    lent: Lent,
-    counters: &mut [u8],
-    slots: &mut [u32],
-    case: u64,
-) -> io::Result<()> {
-    let what = cases::what_of(case);
-    if what == ADD {
-        add(rt, t, lent, counters, slots, case)?;
-    } else if what == DAMAGE {
-        cases::put_word(slots, cases::hop_of(case) as usize, cases::prefix_of(case));
-    } else if what != FILTER {
-        ask(rt, t, lent.values, counters, slots, case)?;
-    }
-    Ok(())
-}
-
-fn line(
-    rt: &impl Print,
-    t: Settings,
-    lent: Lent,
-    counters: &mut [u8],
-    slots: &mut [u32],
-    case: u64,
-) -> io::Result<()> {
-    cases::begin(rt, case)?;
-    act(rt, t, lent, counters, slots, case)?;
-    cases::end(rt)
-}
-
-fn run(rt: &impl Print, cases: &[u64], counters: &mut [u8], slots: &mut [u32]) -> io::Result<()> {
+fn run(rt: &impl Print, numbers: &[u64], counters: &mut [u8], slots: &mut [u32]) -> io::Result<()> {
     let mut t = cases::small(2, 2);
     let mut lent = Lent {
         values: 32,
         counters: 512,
     };
-    let mut i = 0;
-    while i < cases.len() {
-        let case = cases[i];
-        t = set(t, case);
-        lent = lend(lent, case);
-        line(rt, t, lent, counters, slots, case)?;
-        i += 1;
+    for number in numbers {
+        let case = Case(*number);
+        cases::begin(rt, case)?;
+        match kind_of(case) {
+            Kind::Add => cases::add(
+                rt,
+                t,
+                cases::front_mut(lent.counters, counters),
+                slots,
+                case,
+            )?,
+            Kind::Damage => cases::put(slots, case.place(), case.prefix()),
+            Kind::Filter => {
+                t = set(t, case);
+                lent = lend(case);
+            }
+            Kind::Ask => ask(rt, t, lent.values, counters, slots, case)?,
+        }
+        cases::end(rt)?;
     }
     Ok(())
 }

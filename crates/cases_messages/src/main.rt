@@ -3,33 +3,29 @@
 // rules alone: tests/cases works it out.
 #![tactic(auto)]
 
-use cases::Lent;
-use rules::Settings;
+use cases::{Case, Lent};
+use rules::{Settings, number_given};
 use std::io;
 
-// What a case does, beside what crates/cases has for all.
-const CLEAR: u32 = 0;
-
-const ADD: u32 = 1;
-
-// Four bytes of the message, and their place where the hop stands.
-const BYTES: u32 = 2;
-
-// A place of the message and a byte that it has for this time, how many bytes are lent, and how many next
-// hops, with the party where a hop has it.
-const READ: u32 = 3;
-
-// The withdrawal of a prefix, into so many bytes; what they then hold is read.
-const WRITE: u32 = 4;
-
-// A next hop, and its place in the list.
-const HOP: u32 = 5;
-
-// Sums of so many bytes of the message and, where the hop stands, so many next hops: no call changes them.
-const LISTS: u32 = 6;
-
-// From here on the calls are C's.
-const FROM_C: u32 = 7;
+// What a case does, beside what crates/cases sets up for all.
+#[derive(Clone, Copy)]
+enum Kind {
+    Clear,
+    Add,
+    // Four bytes of the message, and their place where the hop stands.
+    Bytes,
+    // A place of the message and a byte that it has for this time, how many bytes are lent, and how many next
+    // hops, with the party where a hop has it.
+    Read,
+    // The withdrawal of a prefix, into so many bytes; what they then hold is read.
+    Write,
+    // A next hop, and its place in the list.
+    Hop,
+    // Sums of so many bytes of the message and, where the hop stands, so many next hops: no call changes them.
+    Lists,
+    // From here on the calls are C's.
+    FromC,
+}
 
 const CASES: [u64; 406] = [
     // K 3, D 4, E 1, S 2 and unlike multipliers, over memory that was never cleared.
@@ -500,56 +496,22 @@ const CASES: [u64; 406] = [
     0x6_00001002_00_00103,
 ];
 
-// What is lent after a case, and whether it is C that calls.
-fn lend(lent: Lent, case: u64) -> Lent {
-    let mut next = cases::lend(lent, case);
-    if cases::what_of(case) == FROM_C {
-        next.from_c = true;
+// What a case does; none where crates/cases does it.
+fn kind_of(case: Case) -> Option<Kind> {
+    match case.digit() {
+        0 => Some(Kind::Clear),
+        1 => Some(Kind::Add),
+        2 => Some(Kind::Bytes),
+        3 => Some(Kind::Read),
+        4 => Some(Kind::Write),
+        5 => Some(Kind::Hop),
+        6 => Some(Kind::Lists),
+        7 => Some(Kind::FromC),
+        _ => None,
     }
-    next
 }
 
-// The byte at a place, if it is there.
-fn byte_at(bytes: &[u8], place: usize) -> u8 {
-    if place < bytes.len() { bytes[place] } else { 0 }
-}
-
-// Reads a message by the crates' own call.
-fn apply(
-    rt: &impl Print,
-    t: Settings,
-    counters: &mut [u8],
-    slots: &mut [u32],
-    party: u32,
-    message: &[u8],
-    hops: &[u32],
-) -> io::Result<()> {
-    let report = message_calls::apply_message(t, counters, slots, party, message, hops);
-    cases::digits(rt, report.refusal as u64)?;
-    cases::digits(rt, report.accepted as u64)?;
-    cases::digits(rt, report.refused as u64)
-}
-
-// Reads a message as C does.
-fn apply_from_c(
-    rt: &impl Print,
-    t: Settings,
-    values: usize,
-    counters: &mut [u8],
-    slots: &mut [u32],
-    party: u32,
-    message: &[u8],
-    hops: &[u32],
-) -> io::Result<()> {
-    let list = cases::list_of(t);
-    let end = cases::bytes_lent(values, &list);
-    let d = &list[..end];
-    let answer = gateway::gateway_update(
-        t.k, d, t.e, t.s, t.a, t.b, t.c, counters, slots, party, message, hops,
-    );
-    cases::digits(rt, answer)
-}
-
+// Reads a message, by the crates' own call or as C does.
 fn update(
     rt: &impl Print,
     t: Settings,
@@ -559,19 +521,18 @@ fn update(
     message: &[u8],
     hops: &[u32],
 ) -> io::Result<()> {
+    let party = lent.party;
     if lent.from_c {
-        apply_from_c(
-            rt,
-            t,
-            lent.values,
-            counters,
-            slots,
-            lent.party,
-            message,
-            hops,
-        )
-    } else {
-        apply(rt, t, counters, slots, lent.party, message, hops)
+        let list = cases::list_of(t);
+        let d = cases::front(lent.values, &list);
+        let answer = gateway::gateway_update(
+            t.k, d, t.e, t.s, t.a, t.b, t.c, counters, slots, party, message, hops,
+        );
+        return cases::digits(rt, answer);
+    }
+    match message_calls::apply_message(t, counters, slots, party, message, hops) {
+        Ok(report) => print!(rt; " 0 {:x} {:x}", report.accepted, report.refused),
+        Err(refusal) => print!(rt; " {:x} 0 0", refusal.number()),
     }
 }
 
@@ -589,120 +550,39 @@ fn read(
     cases::sums(rt, counters, slots)
 }
 
-fn write_room(
-    rt: &impl Print,
-    from_c: bool,
-    p: u32,
-    length: u32,
-    room: &mut [u8],
-) -> io::Result<()> {
-    if from_c {
-        cases::digits(rt, gateway::gateway_write_withdrawal(p, length, room))
-    } else {
-        cases::digits(
-            rt,
-            message_writers::write_withdrawal(p, length, room) as u64,
-        )
-    }
-}
-
-fn show_byte(rt: &impl Print, byte: u8) -> io::Result<()> {
-    print!(rt; "{byte:02x}")
-}
-
-fn show_room(rt: &impl Print, room: &[u8]) -> io::Result<()> {
-    print!(rt; " ")?;
-    let mut i = 0;
-    while i < room.len() {
-        show_byte(rt, room[i])?;
-        i += 1;
-    }
-    Ok(())
-}
-
-// Reads as many bytes of the room as were lent.
-fn read_room(
-    rt: &impl Print,
-    t: Settings,
-    lent: Lent,
-    counters: &mut [u8],
-    slots: &mut [u32],
-    room: &[u8],
-    size: usize,
-) -> io::Result<()> {
-    let end = cases::bytes_lent(size, room);
-    read(rt, t, lent, counters, slots, &room[..end], &[])
-}
-
-fn show_written(
-    rt: &impl Print,
-    t: Settings,
-    lent: Lent,
-    counters: &mut [u8],
-    slots: &mut [u32],
-    room: &[u8; 32],
-    size: usize,
-) -> io::Result<()> {
-    show_room(rt, room)?;
-    read_room(rt, t, lent, counters, slots, room, size)
-}
-
-// Writes a withdrawal, and reads it.
+// Writes a withdrawal, and reads as many bytes of it as were lent.
 fn write(
     rt: &impl Print,
     t: Settings,
     lent: Lent,
     counters: &mut [u8],
     slots: &mut [u32],
-    case: u64,
+    case: Case,
 ) -> io::Result<()> {
     let mut room = [0xaau8; 32];
-    let size = cases::hop_of(case) as usize;
-    let end = cases::bytes_lent(size, &room);
-    let p = cases::prefix_of(case);
-    let length = cases::length_of(case);
-    write_room(rt, lent.from_c, p, length, &mut room[..end])?;
-    show_written(rt, t, lent, counters, slots, &room, size)
+    let size = case.place();
+    let p = case.prefix();
+    let length = case.length();
+    if lent.from_c {
+        let number = gateway::gateway_write_withdrawal(
+            p,
+            length,
+            cases::front_mut(size, &mut room),
+        );
+        cases::digits(rt, number)?;
+    } else {
+        let outcome = message_writers::write_withdrawal(
+            p,
+            length,
+            cases::front_mut(size, &mut room),
+        );
+        cases::digits(rt, number_given(outcome))?;
+    }
+    cases::hex(rt, &room)?;
+    read(rt, t, lent, counters, slots, cases::front(size, &room), &[])
 }
 
-// Puts the two bytes of a number at two places of the message.
-fn put_two(message: &mut [u8], high: usize, low: usize, two: u32) {
-    cases::put_byte(message, high, (two / 0x100 % 0x100) as u8);
-    cases::put_byte(message, low, (two % 0x100) as u8);
-}
-
-// Puts four bytes into the message, the highest of the number first.
-fn put_four(message: &mut [u8], place: u32, four: u32) {
-    let at = place as usize;
-    put_two(message, at, at + 1, four / 0x1_0000);
-    put_two(message, at + 2, at + 3, four);
-}
-
-// Reads so much of the message, with so many next hops.
-fn read_front(
-    rt: &impl Print,
-    t: Settings,
-    lent: Lent,
-    counters: &mut [u8],
-    slots: &mut [u32],
-    message: &[u8],
-    hops: &[u32],
-    case: u64,
-) -> io::Result<()> {
-    let end = cases::bytes_lent((case / 0x100_0000 % 0x10_0000) as usize, message);
-    let count = cases::words_lent(cases::hop_of(case) as usize, hops);
-    read(
-        rt,
-        t,
-        lent,
-        counters,
-        slots,
-        &message[..end],
-        &hops[..count],
-    )
-}
-
-// Reads the message, in which one byte is otherwise for this time.
+// Reads so much of the message, in which one byte is otherwise for this time, with so many next hops.
 fn read_patched(
     rt: &impl Print,
     t: Settings,
@@ -711,76 +591,27 @@ fn read_patched(
     slots: &mut [u32],
     message: &mut [u8],
     hops: &[u32],
-    case: u64,
+    case: Case,
 ) -> io::Result<()> {
-    let place = (case / 0x10_0000_0000_0000 % 0x100) as usize;
-    let before = byte_at(message, place);
-    cases::put_byte(message, place, (case / 0x1000_0000_0000 % 0x100) as u8);
-    read_front(rt, t, lent, counters, slots, message, hops, case)?;
-    cases::put_byte(message, place, before);
-    Ok(())
-}
-
-fn show_lists(
-    rt: &impl Print,
-    message: &[u8],
-    hops: &[u32],
-    bytes: u32,
-    words: u32,
-) -> io::Result<()> {
-    let end = cases::bytes_lent(bytes as usize, message);
-    let count = cases::words_lent(words as usize, hops);
-    cases::sums(rt, &message[..end], &hops[..count])
-}
-
-// A case of the message and the next hops alone.
-fn prepare(rt: &impl Print, message: &mut [u8], hops: &mut [u32], case: u64) -> io::Result<()> {
-    let p = cases::prefix_of(case);
-    let hop = cases::hop_of(case);
-    match cases::what_of(case) {
-        BYTES => put_four(message, hop, p),
-        HOP => cases::put_word(hops, hop as usize, p),
-        LISTS => show_lists(rt, message, hops, p, hop)?,
-        _ => {}
-    }
-    Ok(())
-}
-
-fn add(
-    rt: &impl Print,
-    t: Settings,
-    counters: &mut [u8],
-    slots: &mut [u32],
-    case: u64,
-) -> io::Result<()> {
-    let p = cases::prefix_of(case);
-    let length = cases::length_of(case);
-    let hop = cases::hop_of(case);
-    let party = cases::party_of(case);
-    cases::digits(
+    let place = (case.0 / 0x10_0000_0000_0000 % 0x100) as usize;
+    let before = message.get(place).copied().unwrap_or(0);
+    cases::put(message, place, (case.0 / 0x1000_0000_0000 % 0x100) as u8);
+    let size = (case.0 / 0x100_0000 % 0x10_0000) as usize;
+    read(
         rt,
-        table::add(t, counters, slots, party, p, length, hop) as u64,
-    )
-}
-
-// A case of the table alone.
-fn act(
-    rt: &impl Print,
-    t: Settings,
-    counters: &mut [u8],
-    slots: &mut [u32],
-    case: u64,
-) -> io::Result<()> {
-    match cases::what_of(case) {
-        CLEAR => cases::digits(rt, table::clear(t, counters, slots) as u64)?,
-        ADD => add(rt, t, counters, slots, case)?,
-        _ => cases::damage(counters, slots, case),
-    }
+        t,
+        lent,
+        counters,
+        slots,
+        cases::front(size, message),
+        cases::front(case.place(), hops),
+    )?;
+    cases::put(message, place, before);
     Ok(())
 }
 
 // A case over the memory that is lent for it.
-fn call(
+fn make(
     rt: &impl Print,
     t: Settings,
     lent: Lent,
@@ -788,64 +619,73 @@ fn call(
     slots: &mut [u32],
     message: &mut [u8],
     hops: &mut [u32],
-    case: u64,
+    case: Case,
 ) -> io::Result<()> {
-    let what = cases::what_of(case);
-    if what == READ {
-        read_patched(rt, t, lent, counters, slots, message, hops, case)
-    } else if what == WRITE {
-        write(rt, t, lent, counters, slots, case)
-    } else {
-        act(rt, t, counters, slots, case)?;
-        prepare(rt, message, hops, case)
+    let p = case.prefix();
+    match kind_of(case) {
+        Some(Kind::Clear) => {
+            let outcome = table::clear(t, counters, slots);
+            cases::digits(rt, number_given(outcome))?;
+        }
+        Some(Kind::Add) => {
+            let outcome = table::add(
+                t,
+                counters,
+                slots,
+                case.party(),
+                p,
+                case.length(),
+                case.hop(),
+            );
+            cases::digits(rt, number_given(outcome))?;
+        }
+        Some(Kind::Bytes) => {
+            if let Some(rest) = message.get_mut(case.place()..) {
+                cases::fill(rest, &p.to_be_bytes());
+            }
+        }
+        Some(Kind::Read) => read_patched(rt, t, lent, counters, slots, message, hops, case)?,
+        Some(Kind::Write) => write(rt, t, lent, counters, slots, case)?,
+        Some(Kind::Hop) => cases::put(hops, case.place(), p),
+        Some(Kind::Lists) => cases::sums(
+            rt,
+            cases::front(p as usize, message),
+            cases::front(case.place(), hops),
+        )?,
+        Some(Kind::FromC) => {}
+        None => cases::damage(counters, slots, case),
     }
-}
-
-// A case over as much of the memory as is lent, and what it writes.
-fn line(
-    rt: &impl Print,
-    t: Settings,
-    lent: Lent,
-    counters: &mut [u8],
-    slots: &mut [u32],
-    message: &mut [u8],
-    hops: &mut [u32],
-    case: u64,
-) -> io::Result<()> {
-    let bytes = cases::bytes_lent(lent.counters, counters);
-    let words = cases::words_lent(lent.words, slots);
-    cases::begin(rt, case)?;
-    call(
-        rt,
-        t,
-        lent,
-        &mut counters[..bytes],
-        &mut slots[..words],
-        message,
-        hops,
-        case,
-    )?;
-    cases::end(rt)
+    Ok(())
 }
 
 // The cases of a list, one after the other over the same memory.
 fn run(
     rt: &impl Print,
-    cases: &[u64],
+    numbers: &[u64],
     counters: &mut [u8],
     slots: &mut [u32],
     message: &mut [u8],
     hops: &mut [u32],
 ) -> io::Result<()> {
     let mut t = cases::none_set();
-    let mut lent = cases::none_lent();
-    let mut i = 0;
-    while i < cases.len() {
-        let case = cases[i];
+    let mut lent = Lent::default();
+    for number in numbers {
+        let case = Case(*number);
         t = cases::set(t, case);
-        lent = lend(lent, case);
-        line(rt, t, lent, counters, slots, message, hops, case)?;
-        i += 1;
+        lent = cases::lend(lent, case);
+        lent.from_c = lent.from_c || matches!(kind_of(case), Some(Kind::FromC));
+        cases::begin(rt, case)?;
+        make(
+            rt,
+            t,
+            lent,
+            cases::front_mut(lent.counters, counters),
+            cases::front_mut(lent.words, slots),
+            message,
+            hops,
+            case,
+        )?;
+        cases::end(rt)?;
     }
     Ok(())
 }

@@ -4,23 +4,28 @@
 // the rules alone: tests/cases works it out.
 #![tactic(auto)]
 
+use cases::Case;
+use rules::number_given;
 use std::io;
 
-// What a case does, beside the damage of crates/cases, whose words are here those of the tally. All begins anew:
-// a cleared table, zeros for the stream's words, the tally FIGURES, and the day but for a byte, whose place stands
-// where the hop does. Byte 0x65 at place 0 is the day's own.
-const BEGIN: u32 = 0;
+// What a case does, beside the damage of crates/cases, whose words are here those of the tally.
+#[derive(Clone, Copy)]
+enum Kind {
+    // All begins anew: a cleared table, zeros for the stream's words, the tally FIGURES, and the day but for a
+    // byte, whose place stands where the hop does. Byte 0x65 at place 0 is the day's own.
+    Begin,
+    // The bytes of the day from a place on, K and S where the length stands and, where the hop does, how many,
+    // for a party.
+    Chunk(Caller),
+    End(Caller),
+}
 
-// The bytes of the day from a place on, K and S where the length stands and, where the hop does, how many, for a
-// party.
-const CHUNK: u32 = 1;
-
-const END: u32 = 2;
-
-// As C calls them.
-const C_CHUNK: u32 = 3;
-
-const C_END: u32 = 4;
+// Who calls.
+#[derive(Clone, Copy)]
+enum Caller {
+    Rattle,
+    C,
+}
 
 // What a tally begins with. What is counted is added to the last digit, in hex.
 const FIGURES: [u32; 23] = [
@@ -340,6 +345,18 @@ const CASES: [u64; 246] = [
     0x3_00000000_22_00001,
 ];
 
+// What a case does; none where it is damage.
+fn kind_of(case: Case) -> Option<Kind> {
+    match case.digit() {
+        0 => Some(Kind::Begin),
+        1 => Some(Kind::Chunk(Caller::Rattle)),
+        2 => Some(Kind::End(Caller::Rattle)),
+        3 => Some(Kind::Chunk(Caller::C)),
+        4 => Some(Kind::End(Caller::C)),
+        _ => None,
+    }
+}
+
 // All begins anew, but for a byte of the day.
 fn begin(
     rt: &impl Print,
@@ -348,11 +365,12 @@ fn begin(
     tally: &mut [u32; 23],
     words: &mut [u32; 3],
     day: &mut [u8],
-    case: u64,
+    case: Case,
 ) -> io::Result<()> {
-    cases::digits(rt, table::clear(cases::small(2, 2), counters, slots) as u64)?;
+    let outcome = table::clear(cases::small(2, 2), counters, slots);
+    cases::digits(rt, number_given(outcome))?;
     *tally = FIGURES;
-    *words = [0, 0, 0];
+    *words = [0; 3];
     cases::fill_but(day, &RECORDS, case);
     Ok(())
 }
@@ -360,42 +378,42 @@ fn begin(
 // A chunk, by the crates' own call or as C calls it.
 fn chunk(
     rt: &impl Print,
+    caller: Caller,
     counters: &mut [u8; 512],
     slots: &mut [u32; 258],
     tally: &mut [u32; 23],
     words: &mut [u32; 3],
     room: &mut [u8; 65548],
     day: &[u8],
-    case: u64,
+    case: Case,
 ) -> io::Result<()> {
-    let from = cases::bytes_lent(cases::prefix_of(case) as usize, day);
-    let rest = &day[from..];
-    let many = cases::bytes_lent(cases::hop_of(case) as usize, rest);
-    let lent = &rest[..many];
-    let shape = cases::length_of(case);
+    let from = cases::up_to(case.prefix() as usize, day);
+    let lent = cases::front(case.place(), &day[from..]);
+    let shape = case.length();
     let t = cases::small(shape / 0x10, shape % 0x10);
-    let party = cases::party_of(case);
-    if cases::what_of(case) == CHUNK {
-        let number = replay_calls::replay_chunk(
-            t, counters, slots, party, &HOPS, tally, words, room, lent,
-        );
-        cases::digits(rt, number as u64)?;
-    } else {
-        let d = t.d;
-        let number = gateway::gateway_replay(
-            t.k, &d, t.e, t.s, t.a, t.b, t.c, counters, slots, party, &HOPS, tally, words, room,
-            lent,
-        );
-        cases::digits(rt, number)?;
+    let party = case.party();
+    match caller {
+        Caller::Rattle => {
+            let number = replay_calls::replay_chunk(
+                t, counters, slots, party, &HOPS, tally, words, room, lent,
+            );
+            cases::digits(rt, number)?;
+        }
+        Caller::C => {
+            let number = gateway::gateway_replay(
+                t.k, &t.d, t.e, t.s, t.a, t.b, t.c, counters, slots, party, &HOPS, tally, words,
+                room, lent,
+            );
+            cases::digits(rt, number)?;
+        }
     }
     cases::show(rt, counters, slots, room)
 }
 
-fn end(rt: &impl Print, words: &mut [u32; 3], case: u64) -> io::Result<()> {
-    if cases::what_of(case) == END {
-        cases::digits(rt, stream_records::end_stream(words) as u64)
-    } else {
-        cases::digits(rt, gateway::gateway_end_stream(words))
+fn end(rt: &impl Print, caller: Caller, words: &mut [u32; 3]) -> io::Result<()> {
+    match caller {
+        Caller::Rattle => cases::digits(rt, stream_records::end_stream(words)),
+        Caller::C => cases::digits(rt, gateway::gateway_end_stream(words)),
     }
 }
 
@@ -408,14 +426,16 @@ fn line(
     words: &mut [u32; 3],
     room: &mut [u8; 65548],
     day: &mut [u8; 66048],
-    case: u64,
+    case: Case,
 ) -> io::Result<()> {
     cases::begin(rt, case)?;
-    match cases::what_of(case) {
-        BEGIN => begin(rt, counters, slots, tally, words, day, case)?,
-        CHUNK | C_CHUNK => chunk(rt, counters, slots, tally, words, room, day, case)?,
-        END | C_END => end(rt, words, case)?,
-        _ => cases::damage(counters, tally, case),
+    match kind_of(case) {
+        Some(Kind::Begin) => begin(rt, counters, slots, tally, words, day, case)?,
+        Some(Kind::Chunk(caller)) => {
+            chunk(rt, caller, counters, slots, tally, words, room, day, case)?;
+        }
+        Some(Kind::End(caller)) => end(rt, caller, words)?,
+        None => cases::damage(counters, tally, case),
     }
     cases::finish(rt, tally, words)
 }
@@ -427,9 +447,7 @@ fn main(rt: HostRuntime) -> io::Result<()> {
     let mut words = [0u32; 3];
     let mut room = [0xaau8; 65548];
     let mut day = [0u8; 66048];
-    let cases = CASES;
-    let mut i = 0;
-    while i < cases.len() {
+    for number in &CASES {
         line(
             &rt,
             &mut counters,
@@ -438,9 +456,8 @@ fn main(rt: HostRuntime) -> io::Result<()> {
             &mut words,
             &mut room,
             &mut day,
-            cases[i],
+            Case(*number),
         )?;
-        i += 1;
     }
     Ok(())
 }

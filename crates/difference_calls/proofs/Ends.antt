@@ -8,11 +8,14 @@ use native.Mathlib.Omega.{arith}
 use lib.ListN.{length}
 use lib.Seq.{sets, sets-eq}
 use borrow.Author.Tests.{lt-ltb, le-ltb}
+use Rattle.std.specs.Prelude.{Result, Ok, Err, MatchResult}
+use Rattle.rules.specs.declared.Refusal.{Refusal}
 use Rattle.rules.specs.declared.Settings.{Settings}
+use Rattle.rules.specs.Numbers.{number_given}
+use Rattle.rules.proofs.Numbers.{refusal_nonzero}
 use Rattle.rules.specs.Table.{Memory, lent, refuse, memory_refusal, party_refusal}
 use Rattle.rules.proofs.Refusals.{Passing, memory_passing, party_passing, stopped, let_by, Fitted, memory_passed, PartyFitted, party_passed}
-use Rattle.difference_rules.specs.declared.Differences.{Differences}
-use Rattle.difference_rules.specs.Comparing.{with_count, compared, over, difference_refusal, listing}
+use Rattle.difference_rules.specs.Comparing.{compared, over, differences_given, difference_refusal, listing}
 use Rattle.difference_rules.proofs.Checks.{refused_listing, accepted_listing}
 
 -- ---- The checks
@@ -49,34 +52,29 @@ tables_passed t counters slots u others words party after e =
 -- ---- The list
 
 -- what is stored from the front on stands over the list
-stored_over : (written list : List ℕ) → length written ≤ length list → sets list 0 written ≡ over written list
+pub stored_over : {A : Type 0} (written list : List A) → length written ≤ length list → sets list 0 written ≡ over written list
 unfolding over
 stored_over written list fits = sets-eq written list 0 (omega arith) ∙ rw zero-add
 
-module _ (t : Settings) (m : Memory) (u : Settings) (n : Memory) (party count : ℕ) (written list : List ℕ)
+module _ (t : Settings) (m : Memory) (u : Settings) (n : Memory) (party needed room : ℕ)
     {given : ℕ} (e : given ≡ memory_refusal t m (party_refusal u n party 0)) where
-  -- how it ends
-  abbrev Ends : Differences → List ℕ → Type 0
-  Ends answer left = listing (difference_refusal t m u n party (length written) (length list)) count written list ≡ compared answer left
-
-  -- the tables are refused
-  pub stops : (given ≡ 0 → ⊥) → {answer : Differences} → answer ≡ with_count given 0 → Ends answer list
+  -- the tables or the party are refused
+  pub stops : (given ≡ 0 → ⊥) → given ≡ difference_refusal t m u n party needed room
   unfolding difference_refusal
-  stops bad same = rw same (refused_listing _ count written list (stopped (tables_passing t m u n party) e bad _) bad)
+  stops bad = stopped (tables_passing t m u n party) e bad _
 
-  -- the list, which counting leaves as it was, is shorter than the differences need
-  pub runs_out : given ≡ 0 → {kept : List ℕ} → kept ≡ list → length kept < length written → {answer : Differences} → answer ≡ with_count 18 0 → Ends answer kept
+  -- the list is shorter than the differences need
+  pub runs_out : given ≡ 0 → room < needed → 18 ≡ difference_refusal t m u n party needed room
   unfolding difference_refusal refuse
-  runs_out good stays short same =
-      rw (same, stays)
-      (refused_listing _ count written list
-      (sym (let_by (tables_passing t m u n party) e good _ ∙ simp (lt-ltb _ _ (rw stays at short)))) (suc-ne-zero 17))
+  runs_out good short = sym (let_by (tables_passing t m u n party) e good _ ∙ simp (lt-ltb _ _ short))
 
-  -- what differs is written into it
-  pub lists : given ≡ 0 → {kept : List ℕ} → kept ≡ list → length written ≤ length kept → {told : ℕ} → told ≡ count
-      → {left : List ℕ} → left ≡ sets kept 0 written → Ends (with_count 0 told) left
+  -- nothing is refused
+  pub passes : given ≡ 0 → needed ≤ room → 0 ≡ difference_refusal t m u n party needed room
   unfolding difference_refusal refuse
-  lists good stays room same put =
-      let fits : length written ≤ length list = rw stays at room in
-      rw (same, put, stays, stored_over written list)
-      (accepted_listing _ count written list (sym (let_by (tables_passing t m u n party) e good _ ∙ simp (le-ltb _ _ fits))) refl)
+  passes good fits = sym (let_by (tables_passing t m u n party) e good _ ∙ simp (le-ltb _ _ fits))
+
+-- so what is given back, and the list as it is left, are what the rules say
+pub as_listed : (refusal count : ℕ) (written list after : List ℕ) (r : Result ℕ Refusal) → number_given r ≡ refusal
+    → MatchResult r (λ n. (n ≡ count) × (after ≡ over written list)) (λ _. after ≡ list) → listing refusal count written list ≡ compared (differences_given r) after
+as_listed refusal count written list after (Ok n) e is = rw (is.0, is.1) (accepted_listing _ _ written list e refl)
+as_listed refusal count written list after (Err x) e kept = rw kept (refused_listing _ count written list e (refusal_nonzero x))

@@ -2,40 +2,82 @@
 // them. No call requires anything: bad input gets its number and changes nothing.
 #![tactic(auto)]
 
-ghost use Rattle.std.specs.Prelude.{◌≡◌, length};
-ghost use Rattle.rules.specs.Table.{Memory, lent, memory_refusal, party_refusal};
-ghost use Rattle.difference_rules.specs.Comparing.{with_count, compared, difference, c_difference};
+ghost use Rattle.std.specs.Prelude.{◌≡◌, ◌*◌, ◌≤◌, length, IfOk, MatchResult};
+ghost use Rattle.rules.specs.Table.{lent, memory_refusal, party_refusal};
+ghost use Rattle.rules.specs.Numbers.{party_number, number_given};
+ghost use Rattle.difference_rules.specs.Comparing.{between, difference_words, over, differences_given, difference_refusal, compared, difference, c_difference};
 
-use c_words::word_count;
-use difference_rules::Differences;
-use difference_walks::{list_in_bytes, list_in_words};
-use rules::Settings;
+use difference_search::Stored;
+use difference_steps::put;
+use difference_walks::Differences;
+use rules::{Party, Refusal, Settings};
 use settings::{refuse_party_sizes, refuse_sizes};
+use words::Cell;
 
-// 1 and 2 of both tables and 15, by how many counters and words their memory has; or 0.
-fn refuse_tables(
+// 1 and 2 of both tables and 15; or the party.
+fn refuse_tables<T: Cell>(
     first: Settings,
-    counters: usize,
-    slots: usize,
+    counters: &[u8],
+    slots: &[T],
     second: Settings,
-    counters2: usize,
-    slots2: usize,
+    counters2: &[u8],
+    slots2: &[T],
     party: u32,
-) -> u32
-    ensures { (m n : Memory) → length m.counters ≡ counters → length m.slots ≡ slots → length n.counters ≡ counters2 → length n.slots ≡ slots2 → result ≡ memory_refusal first m (party_refusal second n party 0) }
+) -> Result<Party, Refusal>
+    ensures refusal { number_given result ≡ memory_refusal first (lent counters.now (T.words slots.now)) (party_refusal second (lent counters2.now (T.words slots2.now)) party 0) }
+    ensures known { IfOk result (λ whose. party_number whose ≡ party) }
 {
-    let refusal = refuse_sizes(first, counters, slots);
-    if refusal != 0 {
-        return refusal;
-    }
-    refuse_party_sizes(second, counters2, slots2, party)
+    refuse_sizes(first, counters.len(), T::word_count(slots))?;
+    refuse_party_sizes(second, counters2.len(), T::word_count(slots2), party)
 }
 
-// The answer that carries a refusal.
-fn refused(refusal: u32) -> Differences
-    ensures { result ≡ with_count refusal 0 }
+// How many prefixes two tables differ at.
+fn count_differences<T: Cell>(first: &Stored<T>, second: &Stored<T>, party: Party) -> u32
+    ensures { result ≡ length (between first.now.settings (T.words first.now.slots.now) second.now.settings (T.words second.now.slots.now) (party_number party)) }
 {
-    Differences { refusal, count: 0 }
+    Differences::new(first, second, party).count() as u32
+}
+
+// Puts the differences of two tables into a list, from its front on.
+// Each by its place, not by chunks_exact_mut: of chunks that come back a proof knows the lengths alone.
+fn list_differences<T: Cell>(first: &Stored<T>, second: &Stored<T>, party: Party, list: &mut [T])
+    requires room { 4 * T.WIDE * length (between first.now.settings (T.words first.now.slots.now) second.now.settings (T.words second.now.slots.now) (party_number party)) ≤ length list.old }
+    ensures { list.new ≡ over (T.cells (difference_words (between first.now.settings (T.words first.now.slots.now) second.now.settings (T.words second.now.slots.now) (party_number party)))) list.old }
+{
+    for (i, found) in Differences::new(first, second, party).enumerate() {
+        put(list, 4 * T::WIDE * i, found);
+    }
+}
+
+// Counts the prefixes at which two tables differ, and lists them where the list has room for all of them.
+fn compare<T: Cell>(
+    first: Settings,
+    counters: &[u8],
+    slots: &[T],
+    second: Settings,
+    counters2: &[u8],
+    slots2: &[T],
+    party: u32,
+    list: &mut [T],
+) -> Result<u32, Refusal>
+    ensures refusal { let ds = between first (T.words slots.now) second (T.words slots2.now) party in number_given result ≡ difference_refusal first (lent counters.now (T.words slots.now)) second (lent counters2.now (T.words slots2.now)) party (4 * T.WIDE * length ds) (length list.old) }
+    ensures listed { let ds = between first (T.words slots.now) second (T.words slots2.now) party in MatchResult result (λ count. (count ≡ length ds) × (list.new ≡ over (T.cells (difference_words ds)) list.old)) (λ _. list.new ≡ list.old) }
+{
+    let party = refuse_tables(first, counters, slots, second, counters2, slots2, party)?;
+    let first = Stored {
+        settings: first,
+        slots,
+    };
+    let second = Stored {
+        settings: second,
+        slots: slots2,
+    };
+    let count = count_differences(&first, &second, party);
+    if list.len() < 4 * T::WIDE * count as usize {
+        return Err(Refusal::BadRoom);
+    }
+    list_differences(&first, &second, party, list);
+    Ok(count)
 }
 
 // Lists the prefixes at which two tables differ for a party: four words to a difference, which are its length, its
@@ -49,27 +91,12 @@ pub fn difference(
     slots2: &[u32],
     party: u32,
     list: &mut [u32],
-) -> Differences
-    ensures { difference first (lent counters.now slots.now) second (lent counters2.now slots2.now) party list.old ≡ compared result list.new }
+) -> Result<u32, Refusal>
+    ensures { difference first (lent counters.now slots.now) second (lent counters2.now slots2.now) party list.old ≡ compared (differences_given result) list.new }
 {
-    let refusal = refuse_tables(
-        first,
-        counters.len(),
-        slots.len(),
-        second,
-        counters2.len(),
-        slots2.len(),
-        party,
-    );
-    if refusal != 0 {
-        return refused(refusal);
-    }
-    let count = list_in_words(first, slots, second, slots2, party, list, false);
-    if list.len() < 4 * count as usize {
-        return refused(18);
-    }
-    list_in_words(first, slots, second, slots2, party, list, true);
-    Differences { refusal: 0, count }
+    compare(
+        first, counters, slots, second, counters2, slots2, party, list,
+    )
 }
 
 // As `difference`, where slots and list are lent as bytes, four to a word, the low byte first.
@@ -82,25 +109,10 @@ pub fn difference_in_bytes(
     slots2: &[u8],
     party: u32,
     list: &mut [u8],
-) -> Differences
-    ensures { c_difference first counters.now slots.now second counters2.now slots2.now party list.old ≡ compared result list.new }
+) -> Result<u32, Refusal>
+    ensures { c_difference first counters.now slots.now second counters2.now slots2.now party list.old ≡ compared (differences_given result) list.new }
 {
-    let refusal = refuse_tables(
-        first,
-        counters.len(),
-        word_count(slots),
-        second,
-        counters2.len(),
-        word_count(slots2),
-        party,
-    );
-    if refusal != 0 {
-        return refused(refusal);
-    }
-    let count = list_in_bytes(first, slots, second, slots2, party, list, false);
-    if list.len() < 16 * count as usize {
-        return refused(18);
-    }
-    list_in_bytes(first, slots, second, slots2, party, list, true);
-    Differences { refusal: 0, count }
+    compare(
+        first, counters, slots, second, counters2, slots2, party, list,
+    )
 }

@@ -1,16 +1,19 @@
 -- The number that a comparison's checks give, and what it gives back and leaves by that number, be its list words or bytes.
 use Prim.Native.Nat.{ℕ}
-use mathlib.Core.Path.{◌≡◌, refl, sym, ◌∙◌}
+use mathlib.Core.Path.{◌≡◌, refl, sym, ap, ◌∙◌}
 use mathlib.Core.Bool.{Bool, true, false}
 use mathlib.Core.List.{List, []}
 use native.Mathlib.Omega.{arith}
 use lib.Dec.{eqb}
 use lib.ListN.{length}
 use borrow.Author.Tests.{le-ltb, eqb-true, ne_eqb}
+use Rattle.std.specs.Prelude.{Result, Ok, Err}
+use Rattle.rules.specs.declared.Refusal.{Refusal}
 use Rattle.rules.specs.declared.Settings.{Settings}
 use Rattle.rules.specs.Table.{Memory, in_range, sized, refuse, memory_refusal, party_refusal}
+use Rattle.rules.proofs.Numbers.{refusal_nonzero, same_refusal}
 use Rattle.rules.proofs.Refusals.{memory_passed, fits, party_passed, party_fits}
-use Rattle.difference_rules.specs.Comparing.{compared, with_count, over, difference_refusal, listing}
+use Rattle.difference_rules.specs.Comparing.{Differences, compared, with_count, differences_given, over, difference_refusal, listing}
 
 -- ---- What is given back and left
 
@@ -32,6 +35,13 @@ listing_number refusal count written list = go (eqb refusal 0) refl
     go : (b : Bool) → eqb refusal 0 ≡ b → (listing refusal count written list).answer.refusal ≡ refusal
     go true good = rw good (sym (eqb-true refusal 0 good))
     go false bad = rw bad
+
+-- what is given back tells the count, or why the comparison was refused
+pub same_given : (r q : Result ℕ Refusal) → differences_given r ≡ differences_given q → r ≡ q
+same_given (Ok n) (Ok m) e = ap Ok (ap (λ (d : Differences). d.count) e)
+same_given (Err x) (Err y) e = ap Err (same_refusal x y (ap (λ (d : Differences). d.refusal) e))
+same_given (Ok n) (Err y) e = absurd (refusal_nonzero y (sym (ap (λ (d : Differences). d.refusal) e)))
+same_given (Err x) (Ok m) e = absurd (refusal_nonzero x (ap (λ (d : Differences). d.refusal) e))
 
 -- and where nothing differs it is all that is, and the list stays as it was
 nothing_listed : (refusal : ℕ) (list : List ℕ) → listing refusal 0 [] list ≡ compared (with_count refusal 0) list

@@ -1,11 +1,12 @@
 -- Which routes differ, under that heading of docs/TABLE.md. Every definition is of any memory, damaged memory too.
-use Rattle.std.specs.Prelude.{ℕ, zero, suc, ◌+◌, ◌*◌, ◌^◌, Bool, cond, not, List, [], ◌∷◌, ◌++◌, map, length, drop, ltb, eqb}
+use Rattle.std.specs.Prelude.{ℕ, zero, suc, ◌+◌, ◌*◌, ◌^◌, Bool, cond, not, List, [], ◌∷◌, ◌++◌, map, length, drop, ltb, eqb, Result, Ok, Err}
 use Rattle.std.proofs.Math.Option.{Option, some, none}
 use Rattle.rules.specs.Tools.{those}
 use Rattle.rules.specs.declared.Settings.{Settings}
+use Rattle.rules.specs.declared.Refusal.{Refusal}
+use Rattle.rules.specs.Numbers.{refusal_number}
 use Rattle.rules.specs.Table.{Memory, lent, slot_number, own, mark_of, hop_of, mark_at, default_mark, held, loose, refuse, memory_refusal, party_refusal, words, bytes_of}
 use Rattle.difference_rules.specs.declared.Difference.{Difference}
-use Rattle.difference_rules.specs.declared.Differences.{Differences}
 
 -- ---- What a table has
 
@@ -71,6 +72,11 @@ difference_words (d ∷ ds) = d.length ∷ d.prefix ∷ d.first ∷ d.second ∷
 
 -- ---- The call
 
+-- what a comparison answers: how many routes differ, or a refusal's number and zero; 0 is no refusal
+pub record Differences : Type 0 where
+  pub refusal : ℕ
+  pub count : ℕ
+
 -- what a comparison gives back, and the list as it leaves it
 pub record Compared : Type 0 where
   pub answer : Differences
@@ -84,8 +90,13 @@ compared answer list = record { answer = answer; list = list }
 abbrev pub with_count : (refusal count : ℕ) → Differences
 with_count refusal count = record { refusal = refusal; count = count }
 
+-- what is given back: the count, or why it was refused
+abbrev pub differences_given : Result ℕ Refusal → Differences
+differences_given (Ok count) = with_count 0 count
+differences_given (Err e) = with_count (refusal_number e) 0
+
 -- what is written from the list's front on, and after it what the list had
-unfoldable pub over : (written list : List ℕ) → List ℕ
+unfoldable pub over : {A : Type 0} → (written list : List A) → List A
 over written list = written ++ drop (length written) list
 
 -- 1 and 2 of the first table, then of the second, 15, and 18 where the list is shorter than the differences need

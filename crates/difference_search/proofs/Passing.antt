@@ -1,25 +1,27 @@
 -- A pass over slots: at each slot, what lies ahead is the next prefix that the slots before it have.
-use Prim.Native.Nat.{ℕ, zero, suc, ◌+◌, ◌-◌, ◌*◌, ◌^◌, ◌≤◌, ◌<◌}
+use Prim.Native.Nat.{ℕ, zero, suc, ◌+◌, ◌-◌, ◌*◌, ◌%◌, ◌^◌, ◌≤◌, ◌<◌}
 use mathlib.Core.Path.{◌≡◌, refl, sym, ap, ◌∙◌, subst}
 use mathlib.Core.Bool.{Bool, true, false, cond, true≢false}
 use mathlib.Core.List.{List}
 use mathlib.Core.Logic.{◌⊎◌, inl, inr}
-use mathlib.Core.Option.{Option, some, none}
+use mathlib.Core.Option.{Option as Found, some, none}
+use Rattle.std.specs.Prelude.{Option, Some, None}
 use native.Mathlib.Nat.{eq-or-lt_of_le, le_of_suc-le-suc}
 use native.Mathlib.Numerals.{add-one}
 use native.Mathlib.Omega.{arith}
 use lib.Dec.{eqb, leb, ltb}
 use borrow.Author.Tests.{ltb-true, ltb-false, leb-true, leb-false, eqb-true, eqb-false, eq-eqb, ne_eqb, le-leb, lt-ltb}
 use Rattle.rules.specs.declared.Settings.{Settings}
-use Rattle.rules.specs.Table.{slot_number, mark_at, prefix_at, own, holds, held, loose}
+use Rattle.rules.specs.Table.{slot_number, mark_at, prefix_at, default_mark, own, holds, held, loose}
 use Rattle.rules.specs.Ready.{Ready}
 use Rattle.rules.proofs.Members.{both}
+use Rattle.rules.proofs.Prefixes.{loose_low}
 use Rattle.rules.proofs.Lowest.{none_below, some_lowest}
 use Rattle.buckets.proofs.Slots.{counted}
-use Rattle.difference_rules.specs.Comparing.{told, has}
+use Rattle.difference_rules.specs.Comparing.{told, stored_mark, has}
 use Rattle.difference_rules.proofs.Having.{told_own, told_other, has_loose, has_none, has_held}
 use Rattle.difference_search.specs.declared.Ahead.{Ahead}
-use Rattle.difference_search.specs.Next.{own_slot, slot_tells, closer_of, Next}
+use Rattle.difference_search.specs.Next.{own_slot, slot_tells, closer_of, lying, Next, Lies}
 use Rattle.difference_search.proofs.Slots.{slot_after, slot_before}
 
 -- ---- One slot more
@@ -39,12 +41,16 @@ neither : (b : Bool) → cond b 0 0 ≡ zero
 neither true = refl
 neither false = refl
 
+-- what lies ahead lies there as the rules say, and nothing lies beyond every prefix
+pub lies_next : {has : (p : ℕ) → ℕ} {from : ℕ} (o : Option Ahead) → Lies has from o → Next has from (lying o)
+lies_next (Some ahead) l = l.0
+lies_next None l = l
+
 -- a table that has one slot more, which holds p and tells a mark of it
-module _ (p mark : ℕ) {from : ℕ} {ahead : Ahead} {before after : (p : ℕ) → ℕ}
-    (more : (q : ℕ) → after q ≡ or_next (before q) (cond (eqb p q) mark 0)) (next : Next before from ahead) where
+module _ (p mark from : ℕ) (before after : (p : ℕ) → ℕ) (more : (q : ℕ) → after q ≡ or_next (before q) (cond (eqb p q) mark 0)) where
   -- where it tells nothing of what is not below `from` and before what lies ahead, that stays ahead
-  kept : ((q : ℕ) → from ≤ q → q < ahead.prefix → cond (eqb p q) mark 0 ≡ 0) → Next after from ahead
-  kept silent =
+  kept : {ahead : Ahead} → Next before from ahead → ((q : ℕ) → from ≤ q → q < ahead.prefix → cond (eqb p q) mark 0 ≡ 0) → Next after from ahead
+  kept {ahead} next silent =
       record {
         low = next.low;
         high = next.high;
@@ -55,26 +61,31 @@ module _ (p mark : ℕ) {from : ℕ} {ahead : Ahead} {before after : (p : ℕ) �
         end = next.end;
       }
 
+  kept_ahead : (o : Option Ahead) → Lies before from o → ((q : ℕ) → from ≤ q → q < (lying o).prefix → cond (eqb p q) mark 0 ≡ 0) → Lies after from o
+  kept_ahead (Some ahead) l silent = (kept l.0 silent, l.1)
+  kept_ahead None l silent = kept l silent
+
   -- and otherwise it is what lies ahead
-  closer_next : Next after from (closer_of from ahead p mark)
+  closer_lies : p < 2 ^ 32 → (o : Option Ahead) → Lies before from o → Lies after from (closer_of from o p mark)
   unfolding closer_of
-  closer_next = go (ltb p from) (leb ahead.prefix p) (eqb mark 0) refl refl refl
+  closer_lies small o lies = go (ltb p from) (leb (lying o).prefix p) (eqb mark 0) refl refl refl
     where
-      go : (a b c : Bool) → ltb p from ≡ a → leb ahead.prefix p ≡ b → eqb mark 0 ≡ c → Next after from (closer_of from ahead p mark)
-      go true b c ea eb ec = rw ea (kept (λ q l h. rw (ne_eqb p q (omega (arith, ltb-true p from ea)))))
-      go false true c ea eb ec = rw (ea, eb) (kept (λ q l h. rw (ne_eqb p q (omega (arith, leb-true ahead.prefix p eb)))))
-      go false false true ea eb ec = rw (ea, eb, ec) (kept (λ q l h. rw (eqb-true mark 0 ec) (neither (eqb p q))))
+      go : (a b c : Bool) → ltb p from ≡ a → leb (lying o).prefix p ≡ b → eqb mark 0 ≡ c → Lies after from (closer_of from o p mark)
+      go true b c ea eb ec = rw ea (kept_ahead o lies (λ q l h. rw (ne_eqb p q (omega (arith, ltb-true p from ea)))))
+      go false true c ea eb ec = rw (ea, eb) (kept_ahead o lies (λ q l h. rw (ne_eqb p q (omega (arith, leb-true (lying o).prefix p eb)))))
+      go false false true ea eb ec = rw (ea, eb, ec) (kept_ahead o lies (λ q l h. rw (eqb-true mark 0 ec) (neither (eqb p q))))
       go false false false ea eb ec =
           let after_from = ltb-false p from ea in
-          let nearer = leb-false ahead.prefix p eb in
-          rw (ea, eb, ec)
-          (record {
+          let nearer = leb-false (lying o).prefix p eb in
+          let next = lies_next o lies in
+          let there : Next after from (record { prefix = p; mark = mark }) = record {
             low = after_from;
-            high = omega (arith, next.high);
+            high = omega arith;
             none_before = λ q l h. rw (more q, next.none_before q l (omega arith), ne_eqb p q (omega arith));
             there = λ h. (sym (more p ∙ rw (next.none_before p after_from nearer, eq-eqb p p refl)), omega (arith, eqb-false mark 0 ec));
-            end = λ e. absurd (omega (arith, next.high));
-          })
+            end = λ e. absurd (omega arith);
+          } in
+          rw (ea, eb, ec) (there, small)
 
 -- ---- All slots
 
@@ -145,7 +156,7 @@ module _ (t : Settings) (slots : List ℕ) (party L : ℕ) where
     unfolding held holds
     below_all n p last = go (loose p L) (held t slots party p L) refl refl
       where
-        go : (b : Bool) (o : Option ℕ) → loose p L ≡ b → held t slots party p L ≡ o → told_below t slots party L n p ≡ has t slots party p L
+        go : (b : Bool) (o : Found ℕ) → loose p L ≡ b → held t slots party p L ≡ o → told_below t slots party L n p ≡ has t slots party p L
         go true o e there = below_none n p (λ i l. silent_at i p (λ s h at tight. absurd (true≢false (sym e ∙ tight)))) ∙ sym (has_loose t slots party p L e)
         go false none e there =
             below_none n p (λ i l. silent_at i p (λ s h at tight. none_below (holds t slots party p L) t.s there s h))
@@ -162,12 +173,12 @@ module _ (t : Settings) (slots : List ℕ) (party L : ℕ) where
 
 -- ---- The pass
 
-module _ (t : Settings) (slots : List ℕ) (party L n : ℕ) {from : ℕ} where
+module _ (t : Settings) (slots : List ℕ) (party L n from : ℕ) where
   -- before the first slot of the length nothing lies ahead
-  pub passed_none : Ready t L → n ≡ (L - 1) * 2 ^ t.e * t.s → from ≤ 2 ^ 32 → Next (told_below t slots party L n) from (record { prefix = 2 ^ 32; mark = 0 })
+  pub passed_none : Ready t L → n ≡ (L - 1) * 2 ^ t.e * t.s → from < 2 ^ 32 → Lies (told_below t slots party L n) from None
   passed_none ready first far =
       record {
-        low = far;
+        low = omega arith;
         high = omega arith;
         none_before = λ p l h. below_before t slots party L ready n p (omega arith);
         there = λ h. absurd (omega arith);
@@ -175,19 +186,60 @@ module _ (t : Settings) (slots : List ℕ) (party L n : ℕ) {from : ℕ} where
       }
 
   -- a slot is passed as the code reads it
-  pub passed_one : {ahead next : Ahead} (p mark : ℕ) → Next (told_below t slots party L n) from ahead → p ≡ prefix_at slots n → mark ≡ mark_at slots n
-      → next ≡ closer_of from ahead p (slot_tells t party p L n mark) → Next (told_below t slots party L (n + 1)) from next
+  pub passed_one : (ahead next : Option Ahead) → prefix_at slots n < 2 ^ 32 → Lies (told_below t slots party L n) from ahead
+      → next ≡ closer_of from ahead (prefix_at slots n) (slot_tells t party (prefix_at slots n) L n (mark_at slots n)) → Lies (told_below t slots party L (n + 1)) from next
   unfolding told_below tells
-  passed_one p mark before its_prefix its_mark is =
+  passed_one ahead next small before is =
+      let p = prefix_at slots n in
       rw (is, add-one)
-      (closer_next p (slot_tells t party p L n mark)
-      (λ q. rw (← its_prefix, ← its_mark) (ap (or_next (told_below t slots party L n q)) (same q (eqb p q) refl))) before)
+      (closer_lies p (slot_tells t party p L n (mark_at slots n)) from (told_below t slots party L n) _
+      (λ q. ap (or_next (told_below t slots party L n q)) (same q (eqb p q) refl)) small ahead before)
     where
-      same : (q : ℕ) (b : Bool) → eqb p q ≡ b → cond b (slot_tells t party q L n mark) 0 ≡ cond b (slot_tells t party p L n mark) 0
-      same q true e = rw (eqb-true p q e)
+      same : (q : ℕ) (b : Bool) → eqb (prefix_at slots n) q ≡ b
+          → cond b (slot_tells t party q L n (mark_at slots n)) 0 ≡ cond b (slot_tells t party (prefix_at slots n) L n (mark_at slots n)) 0
+      same q true e = rw (eqb-true (prefix_at slots n) q e)
       same q false e = refl
 
   -- after the last slot, the table's next prefix lies ahead
-  pub passed_all : {ahead : Ahead} → Ready t L → L * 2 ^ t.e * t.s ≤ n → Next (told_below t slots party L n) from ahead
-      → Next (λ p. has t slots party p L) from ahead
-  passed_all {ahead} ready last = subst (λ (f : ℕ → ℕ). Next f from ahead) (λ k p. below_all t slots party L ready n p last k)
+  pub passed_all : (ahead : Option Ahead) → Ready t L → L * 2 ^ t.e * t.s ≤ n → Lies (told_below t slots party L n) from ahead
+      → Lies (λ p. has t slots party p L) from ahead
+  passed_all ahead ready last = subst (λ (f : ℕ → ℕ). Lies f from ahead) (λ k p. below_all t slots party L ready n p last k)
+
+-- ---- The default
+
+module _ (t : Settings) (slots : List ℕ) (party : ℕ) where
+  -- what a table has at length 0
+  has_at_zero : has t slots party 0 0 ≡ told party (default_mark t slots party)
+  unfolding has stored_mark
+  has_at_zero = rw (loose_low 0 0)
+
+  has_beyond : (p : ℕ) → 1 ≤ p → p < 2 ^ 32 → has t slots party p 0 ≡ 0
+  unfolding has
+  has_beyond p low high = rw (loose_low p 0, lt-ltb 0 (p % 2 ^ 32) (omega arith))
+
+  -- from a prefix on that is not its own, or where it has none, nothing lies ahead
+  pub default_none : {from : ℕ} → from < 2 ^ 32 → (from ≡ 0 → told party (default_mark t slots party) ≡ 0) → Lies (λ p. has t slots party p 0) from None
+  default_none {from} far silent = record {
+    low = omega arith;
+    high = omega arith;
+    none_before = λ p l h. go p (eqb p 0) refl l h;
+    there = λ h. absurd (omega arith);
+    end = λ e. refl;
+  }
+    where
+      go : (p : ℕ) (b : Bool) → eqb p 0 ≡ b → from ≤ p → p < 2 ^ 32 → has t slots party p 0 ≡ 0
+      go p true e l h = let zero : p ≡ 0 = eqb-true p 0 e in rw zero (has_at_zero ∙ silent (omega arith))
+      go p false e l h = let other = eqb-false p 0 e in has_beyond p (omega arith) h
+
+  -- and otherwise the default does
+  pub default_next : {mark : ℕ} → mark ≡ told party (default_mark t slots party) → 1 ≤ mark → Lies (λ p. has t slots party p 0) 0 (Some (record { prefix = 0; mark = mark }))
+  default_next {mark} is told_some = (
+    record {
+      low = omega arith;
+      high = omega arith;
+      none_before = λ p l h. absurd (omega arith);
+      there = λ h. (is ∙ sym has_at_zero, told_some);
+      end = λ e. absurd (omega arith);
+    },
+    omega arith,
+  )

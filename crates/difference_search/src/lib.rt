@@ -1,88 +1,39 @@
-// The next prefix that a table has at a length, found by one pass over the slots of that length, in words or in
-// lent bytes. Nothing is kept between two passes but the prefix from which the next one goes on.
+// The next prefix that a table has at a length, found by one pass over the slots of that length, lent as words or
+// as bytes. Nothing is kept between two passes but the prefix from which the next one goes on.
 #![tactic(auto)]
 
-ghost use Rattle.std.specs.Prelude.{◌≡◌, true, ◌*◌, ◌^◌, ◌≤◌};
-ghost use Rattle.rules.specs.Table.{in_range, words};
+ghost use Rattle.std.specs.Prelude.{◌≡◌, true, ◌*◌, ◌^◌, ◌≤◌, ◌<◌, leb, length as count_of};
+ghost use Rattle.rules.specs.Table.{in_range, mark_word, prefix_at, mark_at};
 ghost use Rattle.rules.specs.Ready.{Ready, Slots};
+ghost use Rattle.rules.specs.Numbers.{party_number};
 ghost use Rattle.difference_rules.specs.Comparing.{told, has};
-ghost use Rattle.difference_search.specs.Next.{slot_tells, closer_of, Next};
+ghost use Rattle.difference_search.specs.Next.{Tells, slot_tells, closer_of, lying, Lies};
 
-use buckets::{first_mark, first_slot, is_own, mark_at, prefix_at};
-use c_words::word_at;
+use buckets::{default_mark, first_mark, first_slot, is_own, mark_at, prefix_at};
 use prefixes::prefix_of;
-use rules::Settings;
+use rules::{Party, Settings};
+use words::Cell;
 
-// A prefix that lies ahead, and the mark that the table has there, as it is told; 2^32, which is no prefix, and
-// mark 0 where there is none.
-#[derive(Clone, Copy)]
+// A prefix that lies ahead, and the mark that the table has there, as it is told.
+#[derive(Clone, Copy, Debug, PartialEq, Eq)]
 pub struct Ahead {
-    pub prefix: u64,
+    pub prefix: u32,
     pub mark: u32,
 }
 
-// A mark as it is told: that of party 0 with the same hop, and 0 where the mark is not the party's.
-pub fn told(party: u32, mark: u32) -> u32
-    requires { party ≤ 1 }
-    ensures { result ≡ told party mark }
+// A mark as it is told: that of party 0 with the same hop; none where the mark is not the party's.
+#[tactic(auto, using(rules::proofs::Numbers::party_low), unfolding(difference_rules::specs::Comparing::told, rules::specs::Table::own, rules::specs::Table::hop_of, rules::specs::Table::mark_of, rules::specs::Table::first_mark, rules::specs::Tools::within))]
+fn told(party: Party, mark: u32) -> Option<u32>
+    ensures { Tells (told (party_number party) mark) result }
 {
     if !is_own(party, mark) {
-        return 0;
+        return None;
     }
-    mark - first_mark(party) + 1
-}
-
-// What a slot, by its number, tells of the prefix and the mark that it holds: 0 where the prefix has a bit set
-// after the length, or where the slot is not of the prefix's own bucket.
-fn slot_tells(settings: Settings, party: u32, p: u32, length: u32, slot: usize, mark: u32) -> u32
-    requires ready { Ready settings length }
-    requires party_bound { party ≤ 1 }
-    ensures { result ≡ slot_tells settings party p length slot mark }
-{
-    if prefix_of(p, length) != p {
-        return 0;
-    }
-    let first = first_slot(settings, p, length);
-    if slot < first {
-        return 0;
-    }
-    if slot >= first + settings.s as usize {
-        return 0;
-    }
-    told(party, mark)
-}
-
-// The nearer of what lies ahead and what a slot holds, if that is a route of the party's and not before `from`; of
-// equals what was there first.
-fn closer(
-    settings: Settings,
-    party: u32,
-    length: u32,
-    from: u64,
-    ahead: Ahead,
-    slot: usize,
-    p: u32,
-    mark: u32,
-) -> Ahead
-    requires ready { Ready settings length }
-    requires party_bound { party ≤ 1 }
-    ensures { result ≡ closer_of from ahead p (slot_tells settings party p length slot mark) }
-{
-    let prefix = p as u64;
-    if prefix < from {
-        return ahead;
-    }
-    if ahead.prefix <= prefix {
-        return ahead;
-    }
-    let mark = slot_tells(settings, party, p, length, slot, mark);
-    if mark == 0 {
-        return ahead;
-    }
-    Ahead { prefix, mark }
+    Some(mark - first_mark(party) + 1)
 }
 
 // How many slots so many lengths have.
+#[tactic(auto, using(rules::proofs::Placing::ranges, crate::proofs::Slots::buckets_whole, crate::proofs::Slots::slots_small))]
 fn slots_of(settings: Settings, lengths: u32) -> usize
     requires settings_value { in_range settings ≡ true }
     requires lengths_bound { lengths ≤ 32 }
@@ -91,64 +42,90 @@ fn slots_of(settings: Settings, lengths: u32) -> usize
     ((lengths as usize) << (settings.e as usize)) * (settings.s as usize)
 }
 
-// The next prefix that the party has stored at a length, from a number on.
-pub fn next_in_words(settings: Settings, slots: &[u32], party: u32, length: u32, from: u64) -> Ahead
-    requires ready { Ready settings length }
-    requires slots { Slots settings slots.now }
-    requires party_bound { party ≤ 1 }
-    requires from_bound { from ≤ 2 ^ 32 }
-    ensures { Next (λ p. has settings slots.now party p length) from result }
+// Whether what lies ahead is not beyond a prefix.
+fn lies_by(ahead: Option<Ahead>, prefix: u32) -> bool
+    ensures { result ≡ leb (lying ahead).prefix prefix }
 {
-    let mut slot = slots_of(settings, length - 1);
-    let end = slots_of(settings, length);
-    let mut ahead = Ahead {
-        prefix: 0x1_0000_0000,
-        mark: 0,
-    };
-    while slot < end {
-        let p = prefix_at(slots, slot);
-        ahead = closer(
-            settings,
-            party,
-            length,
-            from,
-            ahead,
-            slot,
-            p,
-            mark_at(slots, slot),
-        );
-        slot += 1;
-    }
-    ahead
+    ahead.is_some_and(|nearer| nearer.prefix <= prefix)
 }
 
-// The same from slots that are lent as bytes.
-pub fn next_in_bytes(settings: Settings, slots: &[u8], party: u32, length: u32, from: u64) -> Ahead
-    requires ready { Ready settings length }
-    requires slots { Slots settings (words slots.now) }
-    requires party_bound { party ≤ 1 }
-    requires from_bound { from ≤ 2 ^ 32 }
-    ensures { Next (λ p. has settings (words slots.now) party p length) from result }
-{
-    let mut slot = slots_of(settings, length - 1);
-    let end = slots_of(settings, length);
-    let mut ahead = Ahead {
-        prefix: 0x1_0000_0000,
-        mark: 0,
-    };
-    while slot < end {
-        let p = word_at(slots, 2 * slot);
-        ahead = closer(
-            settings,
-            party,
-            length,
-            from,
-            ahead,
-            slot,
-            p,
-            c_words::mark_at(slots, slot),
-        );
-        slot += 1;
+// What a table has stored: its slots, lent as words or as bytes, and the settings by which they are read.
+#[derive(Drop)]
+pub struct Stored<'a, T: Cell> {
+    pub settings: Settings,
+    pub slots: &'a [T],
+    pub ghost range: { in_range settings ≡ true },
+    pub ghost sized: { Slots settings (T.words slots.now) },
+}
+
+impl<T: Cell> Stored<'_, T> {
+    // What a slot, by its number, tells of the prefix and the mark that it holds: nothing where the prefix has a bit
+    // set after the length, or where the slot is not of the prefix's own bucket.
+    #[tactic(auto, using(rules::proofs::Placing::ranges, buckets::proofs::Slots::first_small), unfolding(crate::specs::Next::slot_tells, crate::specs::Next::own_slot, rules::specs::Table::loose, rules::specs::Table::slot_number))]
+    fn slot_tells(&self, party: Party, p: u32, length: u32, slot: usize, mark: u32) -> Option<u32>
+        requires { Ready self.now.settings length }
+        ensures { Tells (slot_tells self.now.settings (party_number party) p length slot mark) result }
+    {
+        if prefix_of(p, length) != p {
+            return None;
+        }
+        let first = first_slot(self.settings, p, length);
+        if !(first..first + self.settings.s as usize).contains(&slot) {
+            return None;
+        }
+        told(party, mark)
     }
-    ahead
+
+    // The nearer of what lies ahead and what a slot holds, if that is a route of the party's and not before `from`;
+    // of equals what was there first.
+    #[tactic(auto, unfolding(crate::specs::Next::closer_of))]
+    fn closer(
+        &self,
+        party: Party,
+        length: u32,
+        from: u32,
+        ahead: Option<Ahead>,
+        slot: usize,
+    ) -> Option<Ahead>
+        requires ready { Ready self.now.settings length }
+        requires lent { mark_word slot < count_of (T.words self.now.slots.now) }
+        ensures nearer { let p = prefix_at (T.words self.now.slots.now) slot in result ≡ closer_of from ahead p (slot_tells self.now.settings (party_number party) p length slot (mark_at (T.words self.now.slots.now) slot)) }
+        ensures prefix_bound { prefix_at (T.words self.now.slots.now) slot < 2 ^ 32 }
+    {
+        let prefix = prefix_at(self.slots, slot);
+        if prefix < from || lies_by(ahead, prefix) {
+            return ahead;
+        }
+        match self.slot_tells(party, prefix, length, slot, mark_at(self.slots, slot)) {
+            Some(mark) => Some(Ahead { prefix, mark }),
+            None => ahead,
+        }
+    }
+
+    // The default, which is the one route of length 0, if it is not before `from`.
+    fn default_from(&self, party: Party, from: u32) -> Option<Ahead>
+        ensures { Lies (λ p. has self.now.settings (T.words self.now.slots.now) (party_number party) p 0) from result }
+    {
+        if from > 0 {
+            return None;
+        }
+        let mark = told(party, default_mark(self.settings, self.slots, party))?;
+        Some(Ahead { prefix: 0, mark })
+    }
+
+    // The next prefix that the party has stored at a length, from a prefix on.
+    #[tactic(auto, using(crate::proofs::Slots::slot_lent, crate::proofs::Passing::passed_none, crate::proofs::Passing::passed_one, crate::proofs::Passing::passed_all))]
+    pub fn next_prefix(&self, party: Party, length: u32, from: u32) -> Option<Ahead>
+        requires { length ≤ 32 }
+        ensures { Lies (λ p. has self.now.settings (T.words self.now.slots.now) (party_number party) p length) from result }
+    {
+        if length == 0 {
+            return self.default_from(party, from);
+        }
+        let mut ahead = None;
+        for slot in slots_of(self.settings, length - 1)..slots_of(self.settings, length) {
+            ahead = self.closer(party, length, from, ahead, slot);
+        }
+        ahead
+    }
 }

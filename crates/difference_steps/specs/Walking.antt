@@ -1,27 +1,31 @@
--- What a walk over two tables keeps: what lies ahead in each at one length, and how far the list is written.
-use Rattle.std.specs.Prelude.{ℕ, ◌+◌, ◌*◌, ◌^◌, ◌≤◌, ◌<◌, ◌≡◌, Bool, true, cond, List, [], ◌∷◌, length, leb, eqb}
-use Rattle.std.proofs.lemmas.List.Edits.{sets}
-use Rattle.rules.specs.Table.{bytes_of}
+-- What a walk over two tables keeps: what lies ahead in each at one length, and the differences that are left.
+use Rattle.std.specs.Prelude.{ℕ, ◌+◌, ◌-◌, ◌^◌, ◌≤◌, cond, List, [], ◌∷◌, ◌++◌, min, eqb, Option, Some, None}
 use Rattle.difference_rules.specs.declared.Difference.{Difference}
-use Rattle.difference_rules.specs.Comparing.{Side, difference_words}
+use Rattle.difference_rules.specs.Comparing.{Side, numbers_from, differences_from, differences_at}
 use Rattle.difference_search.specs.declared.Ahead.{Ahead}
-use Rattle.difference_search.specs.Next.{Next}
+use Rattle.difference_search.specs.Next.{lying, Lies}
 use Rattle.difference_steps.specs.declared.Walk.{Walk}
 
 -- ---- What lies ahead
 
 -- what lies ahead in each of the two from p on, at length L
 pub record Walking (first second : Side) (L p : ℕ) (walk : Walk) : Type 0 where
-  pub in_first : Next (λ q. first q L) p walk.first
-  pub in_second : Next (λ q. second q L) p walk.second
+  pub in_first : Lies (λ q. first q L) p walk.first
+  pub in_second : Lies (λ q. second q L) p walk.second
 
--- the nearer of the two prefixes; 2^32 where neither table has one
-unfoldable pub nearest_of : Walk → ℕ
-nearest_of walk = cond (leb walk.first.prefix walk.second.prefix) walk.first.prefix walk.second.prefix
+-- the nearer of two prefixes that lie ahead; 2^32 where there is none
+abbrev pub nearer_of : Option Ahead → Option Ahead → ℕ
+nearer_of (Some one) (Some other) = min one.prefix other.prefix
+nearer_of (Some one) None = one.prefix
+nearer_of None (Some other) = other.prefix
+nearer_of None None = 2 ^ 32
+
+abbrev pub nearest_of : Walk → ℕ
+nearest_of walk = nearer_of walk.first walk.second
 
 -- the mark that a table has at p, which is not beyond what lies ahead in it
-unfoldable pub mark_there : Ahead → (p : ℕ) → ℕ
-mark_there ahead p = cond (eqb ahead.prefix p) ahead.mark 0
+unfoldable pub mark_there : Option Ahead → (p : ℕ) → ℕ
+mark_there ahead p = cond (eqb (lying ahead).prefix p) (lying ahead).mark 0
 
 -- what the two have at the nearer prefix
 abbrev pub met : Walk → (L : ℕ) → Difference
@@ -30,29 +34,21 @@ met walk L =
     record { length = L; prefix = p; first = mark_there walk.first p; second = mark_there walk.second p }
 
 -- what lies ahead in a table once q is passed, wherever the way began
-abbrev pub Passed : (has : (p : ℕ) → ℕ) (q : ℕ) (ahead next : Ahead) → Type 0
-Passed has q ahead next = (p : ℕ) → Next has p ahead → p ≤ q → q ≤ ahead.prefix → Next has (q + 1) next
+abbrev pub Passed : (has : (p : ℕ) → ℕ) (q : ℕ) (ahead next : Option Ahead) → Type 0
+Passed has q ahead next = (p : ℕ) → Lies has p ahead → p ≤ q → q ≤ (lying ahead).prefix → Lies has (q + 1) next
 
--- ---- What is listed
+-- ---- What is left
 
--- what is noted of a difference: nothing where both have the same
+-- the walk is at a length, and goes on at the nearer prefix
+pub record Underway (first second : Side) (L : ℕ) (walk : Walk) : Type 0 where
+  pub high : L ≤ 32
+  pub ahead : Walking first second L (nearest_of walk) walk
+
+-- the differences from there on, at this length and then at the longer ones
+unfoldable pub left : (first second : Side) (L : ℕ) (walk : Walk) → List Difference
+left first second L walk =
+    differences_from first second L (nearest_of walk) (2 ^ 32 - nearest_of walk) ++ differences_at first second (numbers_from (L + 1) (32 - L))
+
+-- what is noted of what was met: nothing where both have the same
 unfoldable pub as_difference : Difference → List Difference
 as_difference d = cond (eqb d.first d.second) [] (d ∷ [])
-
--- the bytes of the words of differences
-abbrev pub difference_bytes : List Difference → List ℕ
-difference_bytes ds = bytes_of (difference_words ds)
-
--- the list with this written into it from a place on, if it is to be written
-unfoldable pub put_if : (write : Bool) (list : List ℕ) (at : ℕ) (new : List ℕ) → List ℕ
-put_if write list at new = cond write (sets list at new) list
-
--- these can be counted after so many, and if they are to be written the list has room for them, at so many places to each
-pub record RoomFor (unit : ℕ) (write : Bool) (list : List ℕ) (before : ℕ) (new : List Difference) : Type 0 where
-  pub few : before + length new < 2 ^ 32
-  pub fits : write ≡ true → unit * (before + length new) ≤ length list
-
--- these are counted after so many, and stand in their places in the form if they are to be written
-pub record InPlaces (form : List Difference → List ℕ) (unit : ℕ) (write : Bool) (list : List ℕ) (before : ℕ) (new : List Difference) (after : List ℕ) (count : ℕ) : Type 0 where
-  pub counts : count ≡ before + length new
-  pub puts : after ≡ put_if write list (unit * before) (form new)

@@ -1,5 +1,3 @@
--- What the walks share, whatever the form of the slots and of the list.
-pub mod Defaults
-pub mod Differences
-pub mod Loops
+-- What the walk keeps.
+pub mod Parts
 pub mod Walking

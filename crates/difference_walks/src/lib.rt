@@ -1,203 +1,115 @@
 // A walk over two tables, for a party: the prefixes at which they differ, by rising length and then rising prefix, with
-// what each table has there, counted, and put into a list if they are to be written. Both tables are only read. Each
-// step stands here for slots and a list of words, and again for those lent as bytes.
+// what each table has there. Both tables are only read.
 #![tactic(auto)]
 
-ghost use Rattle.std.specs.Prelude.{◌≡◌, true, ◌*◌, ◌^◌, ◌≤◌, ◌<◌, length as count_of};
-ghost use Rattle.rules.specs.Table.{in_range, words, bytes_of};
-ghost use Rattle.rules.specs.Ready.{Ready, Slots};
-ghost use Rattle.difference_rules.specs.Comparing.{has, differences_of, difference_words, between};
-ghost use Rattle.difference_steps.specs.Walking.{Passed, difference_bytes, put_if, RoomFor, InPlaces};
+ghost use Rattle.std.specs.Prelude.{◌≡◌, ◌+◌, ◌≤◌};
+ghost use Rattle.std.specs.Iterator.{YieldsFirst, item_count};
+ghost use Rattle.rules.specs.Numbers.{party_number};
+ghost use Rattle.difference_rules.specs.Comparing.{has, between};
+ghost use Rattle.difference_steps.specs.Walking.{Walking, Passed, Underway, nearest_of, left};
 
-use buckets::default_mark;
 use difference_rules::Difference;
-use difference_search::{Ahead, next_in_bytes, next_in_words, told};
-use difference_steps::{Walk, met_at, nearest, note_in_bytes, note_in_words};
-use rules::Settings;
+use difference_search::{Ahead, Stored};
+use difference_steps::Walk;
+use rules::Party;
+use words::Cell;
 
 // What lies ahead in a table once a prefix is passed, which is not beyond what lay ahead.
-fn pass_in_words(
-    settings: Settings,
-    slots: &[u32],
-    party: u32,
+fn pass<T: Cell>(
+    table: &Stored<T>,
+    party: Party,
     length: u32,
-    prefix: u64,
-    ahead: Ahead,
-) -> Ahead
-    requires ready { Ready settings length }
-    requires slots { Slots settings slots.now }
-    requires party_bound { party ≤ 1 }
-    requires prefix_bound { prefix < 2 ^ 32 }
-    ensures { Passed (λ p. has settings slots.now party p length) prefix ahead result }
+    prefix: u32,
+    ahead: Option<Ahead>,
+) -> Option<Ahead>
+    requires { length ≤ 32 }
+    ensures { Passed (λ p. has table.now.settings (T.words table.now.slots.now) (party_number party) p length) prefix ahead result }
 {
-    if ahead.prefix == prefix {
-        return next_in_words(settings, slots, party, length, prefix + 1);
+    match ahead {
+        Some(met) if met.prefix == prefix => {
+            table.next_prefix(party, length, prefix.checked_add(1)?)
+        }
+        _ => ahead,
     }
-    ahead
 }
 
-// Counts the differences of a length, after so many of shorter lengths, and puts them into their places if they
-// are to be written.
-fn list_length_in_words(
-    first: Settings,
-    slots: &[u32],
-    second: Settings,
-    slots2: &[u32],
-    party: u32,
-    length: u32,
-    list: &mut [u32],
-    write: bool,
-    before: u32,
-) -> u32
-    requires ready { Ready first length }
-    requires ready_2 { Ready second length }
-    requires slots { Slots first slots.now }
-    requires slots_2 { Slots second slots2.now }
-    requires party_bound { party ≤ 1 }
-    requires room_for { RoomFor 4 write list.old before (differences_of (has first slots.now party) (has second slots2.now party) length) }
-    ensures { InPlaces difference_words 4 write list.old before (differences_of (has first slots.now party) (has second slots2.now party) length) list.new result }
+// What lies ahead in two tables at a length, from its first prefix on.
+fn begin<T: Cell>(first: &Stored<T>, second: &Stored<T>, party: Party, length: u32) -> Walk
+    requires { length ≤ 32 }
+    ensures { Walking (has first.now.settings (T.words first.now.slots.now) (party_number party)) (has second.now.settings (T.words second.now.slots.now) (party_number party)) length 0 result }
 {
-    let mut count = before;
-    let mut walk = Walk {
-        first: next_in_words(first, slots, party, length, 0),
-        second: next_in_words(second, slots2, party, length, 0),
-    };
-    while nearest(walk) < 0x1_0000_0000 {
-        let prefix = nearest(walk);
-        count = note_in_words(list, write, count, met_at(walk, length));
-        walk = Walk {
-            first: pass_in_words(first, slots, party, length, prefix, walk.first),
-            second: pass_in_words(second, slots2, party, length, prefix, walk.second),
-        };
+    Walk {
+        first: first.next_prefix(party, length, 0),
+        second: second.next_prefix(party, length, 0),
     }
-    count
 }
 
-// Counts all differences, the default's first, and puts them into their places if they are to be written.
-pub fn list_in_words(
-    first: Settings,
-    slots: &[u32],
-    second: Settings,
-    slots2: &[u32],
-    party: u32,
-    list: &mut [u32],
-    write: bool,
-) -> u32
-    requires first_value { in_range first ≡ true }
-    requires second_value { in_range second ≡ true }
-    requires slots { Slots first slots.now }
-    requires slots_2 { Slots second slots2.now }
-    requires party_bound { party ≤ 1 }
-    requires room { write ≡ true → 4 * count_of (between first slots.now second slots2.now party) ≤ count_of list.old }
-    ensures value { result ≡ count_of (between first slots.now second slots2.now party) }
-    ensures list_after { list.new ≡ put_if write list.old 0 (difference_words (between first slots.now second slots2.now party)) }
-{
-    let defaults = Difference {
-        length: 0,
-        prefix: 0,
-        first: told(party, default_mark(first, slots, party)),
-        second: told(party, default_mark(second, slots2, party)),
-    };
-    let mut count = note_in_words(list, write, 0, defaults);
-    let mut length = 1;
-    while length <= 32 {
-        count = list_length_in_words(
-            first, slots, second, slots2, party, length, list, write, count,
-        );
-        length += 1;
-    }
-    count
+// The differences of two tables that are still to come: those from a length on, and there from what lies ahead.
+#[derive(Drop)]
+pub struct Differences<'a, T: Cell> {
+    pub first: &'a Stored<'a, T>,
+    pub second: &'a Stored<'a, T>,
+    pub party: Party,
+    pub length: u32,
+    pub walk: Walk,
 }
 
-// As `pass_in_words`, over slots that are lent as bytes.
-fn pass_in_bytes(
-    settings: Settings,
-    slots: &[u8],
-    party: u32,
-    length: u32,
-    prefix: u64,
-    ahead: Ahead,
-) -> Ahead
-    requires ready { Ready settings length }
-    requires slots { Slots settings (words slots.now) }
-    requires party_bound { party ≤ 1 }
-    requires prefix_bound { prefix < 2 ^ 32 }
-    ensures { Passed (λ p. has settings (words slots.now) party p length) prefix ahead result }
-{
-    if ahead.prefix == prefix {
-        return next_in_bytes(settings, slots, party, length, prefix + 1);
+impl<'a, T: Cell> Differences<'a, T> {
+    // All differences, the default's first.
+    #[tactic(auto, using(crate::proofs::Walking::left_begun), unfolding(difference_rules::specs::Comparing::between))]
+    pub fn new(first: &'a Stored<'a, T>, second: &'a Stored<'a, T>, party: Party) -> Self
+        ensures tables { (result.first.now ≡ first.now) × (result.second.now ≡ second.now) × (result.party ≡ party) }
+        ensures underway { Underway (has first.now.settings (T.words first.now.slots.now) (party_number party)) (has second.now.settings (T.words second.now.slots.now) (party_number party)) result.length result.walk }
+        ensures all { left (has first.now.settings (T.words first.now.slots.now) (party_number party)) (has second.now.settings (T.words second.now.slots.now) (party_number party)) result.length result.walk ≡ between first.now.settings (T.words first.now.slots.now) second.now.settings (T.words second.now.slots.now) (party_number party) }
+    {
+        Differences {
+            first,
+            second,
+            party,
+            length: 0,
+            walk: begin(first, second, party, 0),
+        }
     }
-    ahead
+
+    // What lies ahead in both tables once the nearer prefix is passed.
+    fn passed(&self, prefix: u32) -> Walk
+        requires underway { Underway (has self.now.first.now.settings (T.words self.now.first.now.slots.now) (party_number self.now.party)) (has self.now.second.now.settings (T.words self.now.second.now.slots.now) (party_number self.now.party)) self.now.length self.now.walk }
+        requires nearer { prefix ≡ nearest_of self.now.walk }
+        ensures { Walking (has self.now.first.now.settings (T.words self.now.first.now.slots.now) (party_number self.now.party)) (has self.now.second.now.settings (T.words self.now.second.now.slots.now) (party_number self.now.party)) self.now.length (nearest_of self.now.walk + 1) result }
+    {
+        let (party, length) = (self.party, self.length);
+        Walk {
+            first: pass(self.first, party, length, prefix, self.walk.first),
+            second: pass(self.second, party, length, prefix, self.walk.second),
+        }
+    }
 }
 
-// As `list_length_in_words`, over slots and a list of bytes.
-fn list_length_in_bytes(
-    first: Settings,
-    slots: &[u8],
-    second: Settings,
-    slots2: &[u8],
-    party: u32,
-    length: u32,
-    list: &mut [u8],
-    write: bool,
-    before: u32,
-) -> u32
-    requires ready { Ready first length }
-    requires ready_2 { Ready second length }
-    requires slots { Slots first (words slots.now) }
-    requires slots_2 { Slots second (words slots2.now) }
-    requires party_bound { party ≤ 1 }
-    requires room_for { RoomFor 16 write list.old before (differences_of (has first (words slots.now) party) (has second (words slots2.now) party) length) }
-    ensures { InPlaces difference_bytes 16 write list.old before (differences_of (has first (words slots.now) party) (has second (words slots2.now) party) length) list.new result }
-{
-    let mut count = before;
-    let mut walk = Walk {
-        first: next_in_bytes(first, slots, party, length, 0),
-        second: next_in_bytes(second, slots2, party, length, 0),
-    };
-    while nearest(walk) < 0x1_0000_0000 {
-        let prefix = nearest(walk);
-        count = note_in_bytes(list, write, count, met_at(walk, length));
-        walk = Walk {
-            first: pass_in_bytes(first, slots, party, length, prefix, walk.first),
-            second: pass_in_bytes(second, slots2, party, length, prefix, walk.second),
-        };
-    }
-    count
-}
+impl<'a, T: Cell> Iterator for Differences<'a, T> {
+    type Item = Difference;
 
-// As `list_in_words`, over slots and a list of bytes.
-pub fn list_in_bytes(
-    first: Settings,
-    slots: &[u8],
-    second: Settings,
-    slots2: &[u8],
-    party: u32,
-    list: &mut [u8],
-    write: bool,
-) -> u32
-    requires first_value { in_range first ≡ true }
-    requires second_value { in_range second ≡ true }
-    requires slots { Slots first (words slots.now) }
-    requires slots_2 { Slots second (words slots2.now) }
-    requires party_bound { party ≤ 1 }
-    requires room { write ≡ true → 16 * count_of (between first (words slots.now) second (words slots2.now) party) ≤ count_of list.old }
-    ensures value { result ≡ count_of (between first (words slots.now) second (words slots2.now) party) }
-    ensures list_after { list.new ≡ put_if write list.old 0 (bytes_of (difference_words (between first (words slots.now) second (words slots2.now) party))) }
-{
-    let defaults = Difference {
-        length: 0,
-        prefix: 0,
-        first: told(party, c_words::default_mark(first, slots, party)),
-        second: told(party, c_words::default_mark(second, slots2, party)),
-    };
-    let mut count = note_in_bytes(list, write, 0, defaults);
-    let mut length = 1;
-    while length <= 32 {
-        count = list_length_in_bytes(
-            first, slots, second, slots2, party, length, list, write, count,
-        );
-        length += 1;
+    ghost can_next = { λ s. Underway (has s.first.now.settings (T.words s.first.now.slots.now) (party_number s.party)) (has s.second.now.settings (T.words s.second.now.slots.now) (party_number s.party)) s.length s.walk };
+
+    ghost next_gives = { YieldsFirst (λ s. left (has s.first.now.settings (T.words s.first.now.slots.now) (party_number s.party)) (has s.second.now.settings (T.words s.second.now.slots.now) (party_number s.party)) s.length s.walk) };
+
+    ghost remaining = { item_count (λ s. left (has s.first.now.settings (T.words s.first.now.slots.now) (party_number s.party)) (has s.second.now.settings (T.words s.second.now.slots.now) (party_number s.party)) s.length s.walk) };
+
+    fn next(&mut self) -> Option<Difference> {
+        loop {
+            match self.walk.nearest() {
+                Some(prefix) => {
+                    let found = self.walk.met(prefix, self.length);
+                    self.walk = self.passed(prefix);
+                    if found.first != found.second {
+                        return Some(found);
+                    }
+                }
+                None if self.length < 32 => {
+                    self.length += 1;
+                    self.walk = begin(self.first, self.second, self.party, self.length);
+                }
+                None => return None,
+            }
+        }
     }
-    count
 }

@@ -1,5 +1,6 @@
 -- Double hashing one step at a time: the places that are left to visit are the next one and those after it.
-use Rattle.std.proofs.Common.{◌≡◌, ℕ, suc, ◌+◌, ◌-◌, ◌*◌, ◌/◌, ◌%◌, ◌^◌, ◌<◌, ◌≤◌, List, [], ◌∷◌, ◌++◌, map, length, take, set, sym, ap, ◌∙◌, append-nil, le_antisymm, add-one, arith, length-set, take-suc-set}
+use Rattle.std.proofs.Common.{◌≡◌, ℕ, suc, ◌+◌, ◌-◌, ◌*◌, ◌/◌, ◌%◌, ◌^◌, ◌<◌, ◌≤◌, List, [], ◌∷◌, ◌++◌, map, length, take, set, sym, ap, ◌∙◌, append-nil, add-one, arith, length-set, take-suc-set}
+use Rattle.std.proofs.lemmas.List.{take_all}
 use lib.Seq.{append_snoc}
 use Rattle.rules.specs.declared.Settings.{Settings}
 use Rattle.rules.specs.Table.{wrap, steps, filter_bits, positions, counter_place, counter_places}
@@ -38,29 +39,27 @@ module _ (t : Settings) (L growth : ℕ) where
       let many : t.k - step ≡ 0 = omega arith in
       rw many
 
--- an array with the places of the steps so far
+-- a list of K numbers, of which the first so many are the places of the steps so far
 pub record Written (t : Settings) (p L growth : ℕ) (at : List ℕ) (step g : ℕ) : Type 0 where
-  pub size : length at ≡ 8
+  pub size : length at ≡ t.k
   pub ends : counter_places t p L ≡ take step at ++ places_left t L growth step g
-  pub few : step ≤ t.k
 
 module _ {t : Settings} {p L growth step g : ℕ} {at : List ℕ} (w : Written t p L growth at step g) where
   -- a place is written behind those before it
-  pub one_written : {place next : ℕ} → step < t.k → step < 8 → Placed t L g place → next ≡ (g + growth) % 2 ^ 32
+  pub one_written : {place next : ℕ} → step < length at → Placed t L g place → next ≡ (g + growth) % 2 ^ 32
       → Written t p L growth (set at step place) (step + 1) next
-  one_written {place} {next} less fits there grown =
-      let inside : step < length at = omega (arith, w.size) in
+  one_written {place} {next} inside there grown =
+      let less : step < t.k = omega (arith, w.size) in
       record {
         size = length-set at step place ∙ w.size;
         ends =
             w.ends
             ∙ ap (λ (l : List ℕ). take step at ++ l) (one_left t L growth step less there grown)
             ∙ rw (add-one step, take-suc-set at step place inside) (sym (append_snoc (take step at) place (places_left t L growth (suc step) next)));
-        few = omega arith;
       }
 
-  -- after the last step the first K are the places
-  pub all_written : t.k ≤ step → take t.k at ≡ counter_places t p L
+  -- after the last step they are the places
+  pub all_written : length at ≤ step → at ≡ counter_places t p L
   all_written done =
-      ap (λ (n : ℕ). take n at) (le_antisymm done w.few)
-      ∙ sym (w.ends ∙ ap (λ (l : List ℕ). take step at ++ l) (none_left t L growth step g done) ∙ append-nil (take step at))
+      sym (take_all step at done)
+      ∙ sym (w.ends ∙ ap (λ (l : List ℕ). take step at ++ l) (none_left t L growth step g (omega (arith, w.size))) ∙ append-nil (take step at))

@@ -1,43 +1,15 @@
--- The K places of a prefix as an array has them, and what an update asks of their counters and does to them.
-use Rattle.std.specs.Prelude.{◌≡◌, ℕ, ◌+◌, ◌-◌, ◌/◌, ◌^◌, ◌<◌, ◌≤◌, Bool, List, length, take, nat_lt, slice_index}
+-- Where a counter lies, and what an update asks of the counters at some places and does to them.
+use Rattle.std.specs.Prelude.{◌≡◌, ℕ, ◌+◌, ◌-◌, ◌/◌, ◌^◌, ◌<◌, Bool, List, nat_lt, slice_index}
 use Rattle.rules.specs.declared.Settings.{Settings}
 use Rattle.rules.specs.Tools.{any, count}
-use Rattle.rules.specs.Table.{filter_bits, filter_start, counter_place, counter_places, counters_size}
+use Rattle.rules.specs.Table.{filter_bits, counter_place, counters_size, passes_15, runs_short}
 use Rattle.filters.specs.declared.Step.{Step}
 use Rattle.filters.specs.declared.Step.TheVariants.{Raise, Lower}
-
--- the filter of length L begins there, and so many bits number its counters
-pub record Filter (t : Settings) (L start bits : ℕ) : Type 0 where
-  pub begins : start ≡ filter_start t L
-  pub its_bits : bits ≡ filter_bits t L
 
 -- a place is that of the counter that g numbers, and is one of the counters'
 pub record Placed (t : Settings) (L g place : ℕ) : Type 0 where
   pub there : place ≡ counter_place t L (g / 2 ^ (32 - filter_bits t L))
   pub inside : place < counters_size t
-
--- the K places of the array: those that stand first
-unfoldable pub k_places : Settings → (places : List ℕ) → List ℕ
-k_places t places = take t.k places
-
--- they are those of p at length L
-pub record PlacesOf (t : Settings) (p L : ℕ) (places : List ℕ) : Type 0 where
-  pub are : k_places t places ≡ counter_places t p L
-
--- the array has K places: it has room for no more than 8
-pub record Whole (t : Settings) (places : List ℕ) : Type 0 where
-  pub few : t.k ≤ 8
-  pub all : t.k ≤ length places
-
--- and each of them is one of these counters'
-pub record Inside (t : Settings) (counters places : List ℕ) : Type 0 where
-  pub whole : Whole t places
-  pub inside : (i : ℕ) → i < t.k → slice_index places i < length counters
-
--- so many of the K places are this one
-pub record Hits (t : Settings) (places : List ℕ) (place hits : ℕ) : Type 0 where
-  pub are : hits ≡ count place (k_places t places)
-  pub few : hits ≤ 8
 
 -- a counter cannot take so many steps: it would pass 15, or it is less than they are
 abbrev pub cannot : Step → (counter hits : ℕ) → Bool
@@ -61,3 +33,8 @@ cannot_at step counters places i = cannot step (slice_index counters i) (count i
 -- some counter at these places cannot
 unfoldable pub some_cannot : Step → (counters places : List ℕ) → Bool
 some_cannot step counters places = any (cannot_at step counters places) places
+
+-- some counter of p at length L cannot, as the rules say it
+abbrev pub cannot_step : Step → Settings → (counters : List ℕ) (p L : ℕ) → Bool
+cannot_step Raise t counters p L = passes_15 t counters p L
+cannot_step Lower t counters p L = runs_short t counters p L

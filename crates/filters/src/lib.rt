@@ -1,57 +1,90 @@
 // One counting filter per length, over lent bytes. An update hashes its prefix once, into places.
 #![tactic(auto)]
 
-ghost use Rattle.std.specs.Prelude.{◌≡◌, ◌+◌, ◌*◌, ◌%◌, ◌^◌, ◌≤◌, false};
-ghost use Rattle.rules.specs.Table.{wrap, filter_start, refuse, claims, step_each};
+ghost use Rattle.std.specs.Prelude.{◌≡◌, ◌+◌, ◌*◌, ◌%◌, ◌^◌, ◌<◌, ◌≤◌, false, length, take, All, OnOk, OnErr};
+ghost use Rattle.rules.specs.Table.{wrap, filter_start, counter_places, refuse, claims, step_each};
+ghost use Rattle.rules.specs.Tools.{count};
 ghost use Rattle.rules.specs.Ready.{Ready, Counters};
-ghost use Rattle.filters.specs.Visits.{Filter, Placed, PlacesOf, Whole, Inside, Hits, k_places, cannot, stepped, some_cannot, step_number};
+ghost use Rattle.rules.specs.Numbers.{refusal_number, number_given};
+ghost use Rattle.filters.specs.Visits.{Placed, cannot, stepped, some_cannot, cannot_step, step_number};
 
 use hashes::{product, top_bits};
-use rules::Settings;
+use rules::{Refusal, Settings};
 
 // Where the K counters of a prefix lie, in the order of the steps; the rest is 0 and is not read.
-pub type Places = [usize; 8];
+type Places = [usize; 8];
 
 // What an update does to the counter at each of its places.
-#[derive(Clone, Copy)]
+#[derive(Clone, Copy, Debug, PartialEq, Eq)]
 pub enum Step {
     Raise,
     Lower,
 }
 
+impl Step {
+    // Whether a counter cannot take so many steps: it would pass 15, or it is less than they are.
+    fn cannot_take(self, counter: u8, hits: u32) -> bool
+        requires { hits ≤ 8 }
+        ensures { result ≡ cannot self counter hits }
+    {
+        match self {
+            Step::Raise => 15 < u32::from(counter) + hits,
+            Step::Lower => u32::from(counter) < hits,
+        }
+    }
+
+    // Why an update is refused whose counters cannot take their hits.
+    fn refusal(self) -> Refusal
+        ensures { refusal_number result ≡ step_number self }
+    {
+        match self {
+            Step::Raise => Refusal::Above,
+            Step::Lower => Refusal::Below,
+        }
+    }
+
+    // A counter after one step that it can take.
+    fn stepped(self, counter: u8) -> u8
+        requires { cannot self counter 1 ≡ false }
+        ensures { result ≡ stepped self counter }
+    {
+        match self {
+            Step::Raise => counter + 1,
+            Step::Lower => counter - 1,
+        }
+    }
+}
+
 // How many counters a filter has that so many bits number.
-pub fn filter_size(bits: u32) -> usize
+pub fn filter_size(bits: u8) -> u32
     requires { bits ≤ 11 }
     ensures { result ≡ 2 ^ bits }
 {
-    1 << (bits as usize)
+    1 << bits
 }
 
 // Where the filter of a length begins among the counters: after those of the shorter lengths.
-fn start_of(settings: Settings, length: u32) -> usize
-    requires { Ready settings length }
-    ensures { result ≡ filter_start settings length }
+fn start_of(settings: &Settings, length: u32) -> usize
+    requires { Ready settings.now length }
+    ensures { result ≡ filter_start settings.now length }
 {
-    let mut start: u32 = 0;
-    for i in 0..(length - 1) as usize {
-        start += 1 << (settings.d[i] as u32);
-    }
-    start as usize
+    let shorter = &settings.d[..(length - 1) as usize];
+    shorter.iter().map(|&bits| filter_size(bits)).sum::<u32>() as usize
 }
 
-// Where the counter that g numbers lies, in the filter of a length that begins at start and whose counters
-// so many bits number.
-fn place_of(settings: Settings, length: u32, start: usize, bits: u32, g: u32) -> usize
-    requires ready { Ready settings length }
-    requires filter { Filter settings length start bits }
-    ensures { Placed settings length g result }
+// Where the counter that g numbers lies, in the filter of a length that begins at start.
+fn place_of(settings: &Settings, length: u32, start: usize, g: u32) -> usize
+    requires ready { Ready settings.now length }
+    requires begins { start ≡ filter_start settings.now length }
+    ensures { Placed settings.now length g result }
 {
+    let bits = u32::from(settings.d[(length - 1) as usize]);
     start + top_bits(g, bits) as usize
 }
 
 // What g grows by at each step of a prefix.
-fn growth_of(settings: Settings, p: u32) -> u32
-    ensures { result ≡ wrap (settings.b * p) }
+fn growth_of(settings: &Settings, p: u32) -> u32
+    ensures { result ≡ wrap (settings.now.b * p) }
 {
     product(settings.b, p)
 }
@@ -60,34 +93,34 @@ fn growth_of(settings: Settings, p: u32) -> u32
 fn grow(g: u32, growth: u32) -> u32
     ensures { result ≡ (g + growth) % 2 ^ 32 }
 {
-    std::num::wrapping_add_u32(g, growth)
+    g.wrapping_add(growth)
 }
 
-// Whether a filter claims a prefix of its length: all its K counters are nonzero. The first of them is zero
-// more often than not, and then the rest is not even hashed.
+// Whether the filter of a length, which begins at start, claims a prefix: all its K counters are nonzero. The
+// first of them is zero more often than not, and then the rest is not even hashed.
 pub fn claims_prefix(
-    settings: Settings,
+    settings: &Settings,
     counters: &[u8],
     p: u32,
     length: u32,
     start: usize,
-    bits: u32,
 ) -> bool
-    requires ready { Ready settings length }
-    requires counters { Counters settings counters.now }
-    requires filter { Filter settings length start bits }
-    ensures { result ≡ claims settings counters.now p length }
+    requires ready { Ready settings.now length }
+    requires counters { Counters settings.now counters.now }
+    requires begins { start ≡ filter_start settings.now length }
+    ensures { result ≡ claims settings.now counters.now p length }
 {
     let once = product(settings.a, p);
-    let first = place_of(settings, length, start, bits, once);
+    let first = place_of(settings, length, start, once);
     if counters[first] == 0 {
         return false;
     }
     let growth = growth_of(settings, p);
     let mut g = grow(once, growth);
+    // That the loop breaks at a zero counter, by a flag, is a form that was asked for.
     let mut claimed = true;
     for _ in 1..settings.k {
-        let place = place_of(settings, length, start, bits, g);
+        let place = place_of(settings, length, start, g);
         if counters[place] == 0 {
             claimed = false;
             break;
@@ -98,91 +131,74 @@ pub fn claims_prefix(
 }
 
 // Where the counters of a prefix lie.
-pub fn places_of(settings: Settings, p: u32, length: u32) -> Places
-    requires { Ready settings length }
-    ensures { PlacesOf settings p length result }
+fn places_of(settings: &Settings, p: u32, length: u32) -> Places
+    requires { Ready settings.now length }
+    ensures { take settings.now.k result ≡ counter_places settings.now p length }
 {
     let start = start_of(settings, length);
-    let bits = settings.d[(length - 1) as usize] as u32;
     let growth = growth_of(settings, p);
     let mut g = product(settings.a, p);
     let mut places = [0; 8];
-    for step in 0..settings.k as usize {
-        places[step] = place_of(settings, length, start, bits, g);
+    for place in &mut places[..settings.k as usize] {
+        *place = place_of(settings, length, start, g);
         g = grow(g, growth);
     }
     places
 }
 
-// How many of the K steps land on a place.
-fn hits_at(settings: Settings, places: &Places, place: usize) -> u32
-    requires { Whole settings places.now }
-    ensures { Hits settings places.now place result }
+// How many of these places are a place.
+#[tactic(auto, using(crate::proofs::Visits::counts))]
+fn hits_at(places: &[usize], place: usize) -> u32
+    requires { length places.now ≤ 8 }
+    ensures { result ≡ count place places.now }
 {
-    let mut hits: u32 = 0;
-    for i in 0..settings.k as usize {
-        if places[i] == place {
-            hits += 1;
+    places.iter().map(|&at| u32::from(at == place)).sum()
+}
+
+// Refuses a step where some counter at these places cannot take its hits.
+fn refuse_step(counters: &[u8], places: &[usize], step: Step) -> Result<(), Refusal>
+    requires few { length places.now ≤ 8 }
+    requires inside { All (λ i. i < length counters.now) places.now }
+    ensures { number_given result ≡ refuse (some_cannot step counters.now places.now) (step_number step) 0 }
+{
+    for &place in places {
+        let hits = hits_at(places, place);
+        if step.cannot_take(counters[place], hits) {
+            return Err(step.refusal());
         }
     }
-    hits
+    Ok(())
 }
 
-// Whether a counter cannot take so many steps: it would pass 15, or it is less than they are.
-fn cannot_take(step: Step, counter: u8, hits: u32) -> bool
-    requires { hits ≤ 8 }
-    ensures { result ≡ cannot step counter hits }
+// Each of these places has its counter stepped, where each counter can take its hits.
+fn step_each(counters: &mut [u8], places: &[usize], step: Step)
+    requires inside { All (λ i. i < length counters.old) places.now }
+    requires places_value { some_cannot step counters.old places.now ≡ false }
+    ensures { counters.new ≡ step_each (stepped step) counters.old places.now }
 {
-    match step {
-        Step::Raise => 15 < counter as u32 + hits,
-        Step::Lower => (counter as u32) < hits,
+    for &place in places {
+        counters[place] = step.stepped(counters[place]);
     }
 }
 
-// The number of an update whose counters cannot take their hits.
-fn number_of(step: Step) -> u32
-    ensures { result ≡ step_number step }
+// Steps the K counters of a prefix, a counter once for each of its hits, if every one of them can take them; if not,
+// it says why, and none is stepped.
+pub fn step_counters(
+    settings: &Settings,
+    counters: &mut [u8],
+    p: u32,
+    length: u32,
+    step: Step,
+) -> Result<(), Refusal>
+    requires ready { Ready settings.now length }
+    requires counters { Counters settings.now counters.old }
+    ensures refusal { number_given result ≡ refuse (cannot_step step settings.now counters.old p length) (step_number step) 0 }
+    ensures ok { OnOk result (counters.new ≡ step_each (stepped step) counters.old (counter_places settings.now p length)) }
+    ensures err { OnErr result (counters.new ≡ counters.old) }
 {
-    match step {
-        Step::Raise => 9,
-        Step::Lower => 10,
-    }
-}
-
-// That number where some counter at these places cannot take its hits, and else 0.
-pub fn refuse_step(settings: Settings, counters: &[u8], places: &Places, step: Step) -> u32
-    requires { Inside settings counters.now places.now }
-    ensures { result ≡ refuse (some_cannot step counters.now (k_places settings places.now)) (step_number step) 0 }
-{
-    for i in 0..settings.k as usize {
-        let place = places[i];
-        let hits = hits_at(settings, places, place);
-        if cannot_take(step, counters[place], hits) {
-            return number_of(step);
-        }
-    }
-    0
-}
-
-// A counter after one step that it can take.
-fn stepped(step: Step, counter: u8) -> u8
-    requires { cannot step counter 1 ≡ false }
-    ensures { result ≡ stepped step counter }
-{
-    match step {
-        Step::Raise => counter + 1,
-        Step::Lower => counter - 1,
-    }
-}
-
-// Each of the K places has its counter stepped, where each counter can take its hits.
-pub fn step_each(settings: Settings, counters: &mut [u8], places: &Places, step: Step)
-    requires inside { Inside settings counters.old places.now }
-    requires places_value { some_cannot step counters.old (k_places settings places.now) ≡ false }
-    ensures { counters.new ≡ step_each (stepped step) counters.old (k_places settings places.now) }
-{
-    for i in 0..settings.k as usize {
-        let place = places[i];
-        counters[place] = stepped(step, counters[place]);
-    }
+    let all = places_of(settings, p, length);
+    let places = &all[..settings.k as usize];
+    refuse_step(counters, places, step)?;
+    step_each(counters, places, step);
+    Ok(())
 }

@@ -4,33 +4,22 @@ use Prim.Native.Nat.{ℕ, ◌*◌, ◌^◌}
 use mathlib.Core.Path.{◌≡◌, refl}
 use mathlib.Core.List.{List}
 use Rattle.rules.specs.Table.{Outcome, left, Listed, answered}
-use Rattle.difference_rules.specs.declared.Differences.{Differences}
-use Rattle.difference_rules.specs.Comparing.{Compared, compared, differences_number}
-use Rattle.message_format.specs.declared.Report.{Report}
-use Rattle.message_format.specs.Reading.{Read, reported, report_number}
+use Rattle.difference_rules.specs.Comparing.{Differences, Compared, compared, differences_number}
+use Rattle.message_format.specs.Reading.{Report, Read, reported, report_number}
 use Rattle.stream_format.specs.Kept.{End, ended_as}
 use Rattle.stream_format.specs.Chunks.{Chunked, chunked}
 use Rattle.c_numbers.specs.Fitting.{RefusalFits, CountsFit}
 use Rattle.gateway.specs.Crossing.{Crossed, ListCrossed, ComparisonCrossed, MessageCrossed, ChunkCrossed, EndCrossed}
 
 module _ {u : Outcome} {refusal : ℕ} {counters slots : List ℕ} (ensured : u ≡ left refusal counters slots) where
-  pub fits_above : RefusalFits u.refusal → RefusalFits refusal
-  fits_above fits = rw ensured at fits
-
   pub crossed : {answer : ℕ} → answer ≡ refusal * 2 ^ 48 → Crossed u answer counters slots
   crossed number = rw ensured (record { number = number; memory = refl })
 
 module _ {l : Listed} {refusal : ℕ} {results : List ℕ} (ensured : l ≡ answered refusal results) where
-  pub list_fits_above : RefusalFits l.refusal → RefusalFits refusal
-  list_fits_above fits = rw ensured at fits
-
   pub list_crossed : {answer : ℕ} → answer ≡ refusal * 2 ^ 48 → ListCrossed l answer results
   list_crossed number = rw ensured (record { number = number; results = refl })
 
 module _ {u : Compared} {given : Differences} {list : List ℕ} (ensured : u ≡ compared given list) where
-  pub comparison_fits_above : RefusalFits u.answer.refusal → RefusalFits given.refusal
-  comparison_fits_above fits = rw ensured at fits
-
   pub comparison_crossed : {answer : ℕ} → answer ≡ differences_number given → ComparisonCrossed u answer list
   comparison_crossed number = rw ensured (record { number = number; list = refl })
 

@@ -2,6 +2,7 @@
 // requires anything, keeps anything or copies the memory. Questions read the slots as bytes, four to a word, the
 // low byte first; the updates write them as words of the machine. What a C program may rely on is
 // proved in crates/c_promises.
+// The settings stand in each call as seven arguments, and each answer is one number, as the C header has them.
 #![tactic(auto)]
 
 ghost use Rattle.std.specs.Prelude.{◌≡◌};
@@ -17,7 +18,7 @@ ghost use Rattle.gateway.specs.Crossing.{Crossed, ListCrossed, ComparisonCrossed
 
 use c_calls::settings_of;
 use c_numbers::{
-    number_of_answer, number_of_differences, number_of_report, number_of_vector, refusal_part,
+    number_of_answer, number_of_outcome, number_of_report, number_of_word, refusal_part,
 };
 use difference_calls::difference_in_bytes;
 use import_calls::import_chunk;
@@ -37,7 +38,7 @@ pub fn gateway_clear(
 ) -> u64
     ensures { Crossed (clear (settings_of k d.now e s a b c) (lent counters.old slots.old)) result counters.new slots.new }
 {
-    refusal_part(table::clear(settings_of(k, d, e, s, a, b, c), counters, slots))
+    number_of_outcome(table::clear(settings_of(k, d, e, s, a, b, c), counters, slots))
 }
 
 // Stores a route for a party, 0 or 1. One that it has stored keeps its slot and gets the new hop.
@@ -59,7 +60,7 @@ pub fn gateway_add(
     ensures { Crossed (add (settings_of k d.now e s a b c) (lent counters.old slots.old) party prefix length hop) result counters.new slots.new }
 {
     let settings = settings_of(k, d, e, s, a, b, c);
-    refusal_part(table::add(settings, counters, slots, party, prefix, length, hop))
+    number_of_outcome(table::add(settings, counters, slots, party, prefix, length, hop))
 }
 
 // Takes a stored route of the party's out.
@@ -80,7 +81,7 @@ pub fn gateway_withdraw(
     ensures { Crossed (withdraw (settings_of k d.now e s a b c) (lent counters.old slots.old) party prefix length) result counters.new slots.new }
 {
     let settings = settings_of(k, d, e, s, a, b, c);
-    refusal_part(table::withdraw(settings, counters, slots, party, prefix, length))
+    number_of_outcome(table::withdraw(settings, counters, slots, party, prefix, length))
 }
 
 // Gives a stored route of the party's a new next hop.
@@ -102,7 +103,7 @@ pub fn gateway_change(
     ensures { Crossed (change (settings_of k d.now e s a b c) (lent counters.old slots.old) party prefix length hop) result counters.new slots.new }
 {
     let settings = settings_of(k, d, e, s, a, b, c);
-    refusal_part(table::change(settings, counters, slots, party, prefix, length, hop))
+    number_of_outcome(table::change(settings, counters, slots, party, prefix, length, hop))
 }
 
 // Which lengths' filters claim an address, bit L - 1 for length L: refusal·2^48 + vector.
@@ -121,7 +122,7 @@ pub fn gateway_match_vector(
     ensures { result ≡ c_match_vector (settings_of k d.now e s a b c) counters.now slots.now address }
 {
     let settings = settings_of(k, d, e, s, a, b, c);
-    number_of_vector(c_calls::match_vector(settings, d, counters, slots, address))
+    number_of_word(lookups::match_vector(&settings, counters, slots, address))
 }
 
 // The longest route stored for the party that matches an address:
@@ -142,7 +143,7 @@ pub fn gateway_lookup(
     ensures { result ≡ c_lookup (settings_of k d.now e s a b c) counters.now slots.now party address }
 {
     let settings = settings_of(k, d, e, s, a, b, c);
-    number_of_answer(c_calls::lookup(settings, d, counters, slots, party, address))
+    number_of_answer(lookups::lookup(&settings, counters, slots, party, address))
 }
 
 // The party's lookup of each address of a list, in its order: found as 1 or 0, hop, length and probes, four
@@ -164,7 +165,7 @@ pub fn gateway_lookup_list(
     ensures { ListCrossed (c_lookup_list (settings_of k d.now e s a b c) counters.now slots.now party addresses.now results.old) result results.new }
 {
     let settings = settings_of(k, d, e, s, a, b, c);
-    refusal_part(c_calls::lookup_list(settings, d, counters, slots, party, addresses, results))
+    number_of_outcome(c_calls::lookup_list(&settings, counters, slots, party, addresses, results))
 }
 
 // Lists the prefixes at which two tables differ for a party, by rising length and then rising prefix: length, prefix, and
@@ -196,7 +197,7 @@ pub fn gateway_list_differences(
 {
     let first = settings_of(k, d, e, s, a, b, c);
     let second = settings_of(k2, d2, e2, s2, a2, b2, c2);
-    number_of_differences(difference_in_bytes(
+    number_of_word(difference_in_bytes(
         first, counters, slots, second, counters2, slots2, party, list,
     ))
 }
@@ -226,7 +227,7 @@ pub fn gateway_update(
 pub fn gateway_write_withdrawal(prefix: u32, length: u32, room: &mut [u8]) -> u64
     ensures { ListCrossed (write_withdrawal prefix length room.old) result room.new }
 {
-    refusal_part(message_writers::write_withdrawal(prefix, length, room))
+    number_of_outcome(message_writers::write_withdrawal(prefix, length, room))
 }
 
 // Takes one chunk of a dump: adds for the party the route of each record that is complete with it, and counts. What

@@ -1,4 +1,5 @@
-// What C links: each call of crates/gateway under its own name, with the same clauses.
+// What C links: each call of crates/gateway under its own name, with the same clauses. It stands here once more,
+// since a crate that C links is no library for other crates.
 #![tactic(auto)]
 
 ghost use Rattle.std.specs.Prelude.{◌≡◌};

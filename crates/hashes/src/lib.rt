@@ -6,7 +6,7 @@ ghost use Rattle.rules.specs.Table.{wrap, bucket};
 
 use rules::Settings;
 
-// The product over 64 bits, of which 32 are kept: it wraps at 2^32.
+// The product, which wraps at 2^32: over 64 bits, of which 32 are kept, as docs/DECISIONS.md has the form.
 pub fn product(a: u32, b: u32) -> u32
     ensures { result ≡ wrap (a * b) }
 {

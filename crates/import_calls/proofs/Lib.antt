@@ -1,4 +1,3 @@
 -- The laws of one record, and what the contract determines.
-pub mod Counts
 pub mod Determined
-pub mod Routes
+pub mod Records

@@ -1,2 +1,3 @@
--- What taking a chunk of a dump does, past its first checks.
-pub mod Chunks
+-- How far the counts of an import go, and the laws by which its call is proved.
+pub mod Counts
+pub mod Laws

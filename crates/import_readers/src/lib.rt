@@ -4,86 +4,69 @@
 ghost use Rattle.std.specs.Prelude.{◌≤◌, ◌≡◌, length};
 ghost use Rattle.import_readers.specs.Records.{entries_read, record_read};
 
-use message_cursors::{NextPrefix, Prefixes, two_bytes};
-use message_readers::{Hop, HopRead, hop_due, read_hop};
+use message_cursors::{Cursor, two_bytes};
+use message_readers::{hop_due, read_hop};
+use rules::Refusal;
 
-// What the entries of a record hold: the first hop, where one has its place in the list; or a fault.
+// The route of a record: its prefix, with the hop of the first entry that has one.
 #[derive(Clone, Copy)]
-pub enum EntriesRead {
-    Good(Hop),
-    Fault,
+pub struct RouteRead {
+    pub prefix: u32,
+    pub length: u32,
+    pub hop: u16,
 }
 
-// A record: its route with the hop of the first entry that has one; no such entry; or a fault.
-#[derive(Clone, Copy)]
-pub enum RecordRead {
-    Route { prefix: u32, length: u32, hop: u32 },
-    Hopless,
-    Fault,
-}
-
-// Reads so many entries from a place on, every one of them to its end.
-fn read_entries(bytes: &[u8], from: usize, many: u32, hops: &[u32]) -> EntriesRead
+// Reads so many entries from a place on, every one of them to its end, which has to be the record's: the first hop, where
+// one has its place in the list.
+fn read_entries(bytes: &[u8], from: usize, many: u32, hops: &[u32]) -> Result<Option<u16>, Refusal>
     requires { from ≤ length bytes.now }
     ensures { result ≡ entries_read bytes.now from many hops.now }
 {
     let mut at = from;
-    let mut left = many;
-    let mut found = Hop::Missing;
-    while left > 0 {
+    let mut found = None;
+    for _ in 0..many {
         if bytes.len() - at < 8 {
-            return EntriesRead::Fault;
+            return Err(Refusal::Malformed);
         }
         let attributes = at + 8;
         let size = two_bytes(bytes, at + 6) as usize;
         if bytes.len() - attributes < size {
-            return EntriesRead::Fault;
+            return Err(Refusal::Malformed);
         }
         let end = attributes + size;
-        let HopRead::Good(next_hop) = read_hop(bytes, attributes, end) else {
-            return EntriesRead::Fault;
-        };
-        if let Hop::Missing = found {
+        let next_hop = read_hop(bytes, attributes, end)?;
+        if found.is_none() {
             found = hop_due(true, next_hop, hops);
         }
         at = end;
-        left -= 1;
     }
     if at != bytes.len() {
-        return EntriesRead::Fault;
+        return Err(Refusal::Malformed);
     }
-    EntriesRead::Good(found)
+    Ok(found)
 }
 
-// Reads a record from end to end.
-pub fn read_record(bytes: &[u8], hops: &[u32]) -> RecordRead
+// Reads a record from end to end: its route, if an entry has a hop.
+pub fn read_record(bytes: &[u8], hops: &[u32]) -> Result<Option<RouteRead>, Refusal>
     ensures { result ≡ record_read bytes.now hops.now }
 {
-    let route = Prefixes {
+    let cursor = Cursor {
         at: 16,
         end: bytes.len(),
     };
-    let NextPrefix::Prefix {
-        prefix,
-        length,
-        rest,
-    } = route.next(bytes)
-    else {
-        return RecordRead::Fault;
+    let Some(read) = cursor.next_prefix(bytes)? else {
+        return Err(Refusal::Malformed);
     };
-    let after = rest.at;
+    let after = read.rest.at;
     if bytes.len() - after < 2 {
-        return RecordRead::Fault;
+        return Err(Refusal::Malformed);
     }
-    match read_entries(bytes, after + 2, two_bytes(bytes, after), hops) {
-        EntriesRead::Good(found) => match found {
-            Hop::At(hop) => RecordRead::Route {
-                prefix,
-                length,
-                hop,
-            },
-            Hop::Missing => RecordRead::Hopless,
-        },
-        EntriesRead::Fault => RecordRead::Fault,
-    }
+    let Some(hop) = read_entries(bytes, after + 2, two_bytes(bytes, after), hops)? else {
+        return Ok(None);
+    };
+    Ok(Some(RouteRead {
+        prefix: read.prefix,
+        length: read.length,
+        hop,
+    }))
 }

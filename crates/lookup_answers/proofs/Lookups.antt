@@ -4,22 +4,23 @@ use Prim.Native.Nat.{ℕ, ◌<◌}
 use mathlib.Core.Path.{◌≡◌, sym, ap, ◌∙◌}
 use mathlib.Core.Bool.{true}
 use mathlib.Core.List.{List}
-use mathlib.Core.Logic.{◌≢◌}
 use lib.ListN.{length}
 use borrow.Author.Tests.{ne_eqb}
+use Rattle.std.specs.Prelude.{Option}
 use Rattle.rules.specs.declared.Settings.{Settings}
-use Rattle.rules.specs.declared.Answer.{Answer}
+use Rattle.rules.specs.Table.{Answer, Memory}
+use Rattle.rules.specs.Numbers.{refusal_number}
+use Rattle.rules.proofs.Numbers.{refusal_nonzero}
 use Rattle.rules.specs.declared.Place.{Place}
+use Rattle.rules.specs.declared.Refusal.{Refusal}
 use Rattle.rules.specs.declared.Place.TheVariants.{At, Absent}
-use Rattle.rules.specs.declared.Vacancy.{Vacancy}
-use Rattle.rules.specs.Table.{in_range, lent, mark_word, mark_at, default_mark, own, party_refusal, set_bits, search as searched, route_answer, default_answer, place_answer, refused, lookup}
+use Rattle.rules.specs.Table.{in_range, mark_word, mark_at, default_mark, own, party_refusal, set_bits, search as searched, route_answer, default_answer, place_answer, refused, lookup}
 use Rattle.rules.specs.Ready.{Slots}
 use Rattle.buckets.proofs.Ends.{Ended, search_ended, set_lengths}
 
-pub stopped : (t : Settings) (counters slots : List ℕ) (party address : ℕ) {refusal : ℕ} {answer : Answer} → refusal ≡ party_refusal t (lent counters slots) party 0 → refusal ≢ 0
-    → answer ≡ refused refusal → answer ≡ lookup t (lent counters slots) party address
+pub stopped : (t : Settings) (m : Memory) (party address : ℕ) (e : Refusal) → refusal_number e ≡ party_refusal t m party 0 → refused (refusal_number e) ≡ lookup t m party address
 unfolding lookup
-stopped t counters slots party address checked bad given = rw (← checked, ne_eqb _ _ bad) given
+stopped t m party address e checked = rw (← checked, ne_eqb _ _ (refusal_nonzero e))
 
 -- past the checks, the place that was found
 pub record Searched (t : Settings) (slots : List ℕ) (party address v : ℕ) (place : Place) : Type 0 where
@@ -49,7 +50,7 @@ module _ {t : Settings} {slots : List ℕ} {party address v : ℕ} {place : Plac
     unfolding place_answer
     route_answers is given = by_place (given ∙ rw (at, is))
 
-  pub default_answers : {mark ones : ℕ} {vacancy : Vacancy} {answer : Answer} → place ≡ Absent vacancy → mark ≡ default_mark t slots party → ones ≡ length (set_bits v)
+  pub default_answers : {mark ones : ℕ} {vacancy : Option ℕ} {answer : Answer} → place ≡ Absent vacancy → mark ≡ default_mark t slots party → ones ≡ length (set_bits v)
       → answer ≡ default_answer party mark ones → answer ≡ place_answer t slots party (length (set_bits v)) (searched t slots party address 0 (set_bits v))
   unfolding place_answer
   default_answers absent is many given = by_place (given ∙ rw (absent, is, many))

@@ -1,73 +1,55 @@
--- A list of addresses while it is answered, address by address, in words or in bytes: the results hold the first answers,
--- from the front, and then what they held before.
+-- A list of addresses while it is answered, address by address: the results hold the first answers, from the front, and then
+-- what they held before.
 use Prim.Native.Nat.{ℕ, ◌+◌, ◌*◌, ◌≤◌, ◌<◌}
-use mathlib.Core.Path.{◌≡◌, refl, sym, ap, ◌∙◌}
+use mathlib.Core.Path.{◌≡◌, sym, ap, ◌∙◌}
 use mathlib.Core.List.{List, [], ◌++◌, append-nil}
 use native.Mathlib.Nat.{zero-add}
 use native.Mathlib.Omega.{arith}
 use lib.ListN.{length, take, get_or, drop_of_length-le}
-use lib.Seq.{sets, length-sets, sets-eq, take_all, length-take-le}
+use lib.Seq.{sets, sets-eq, take_all, length-take-le}
 use Rattle.rules.specs.declared.Settings.{Settings}
-use Rattle.rules.specs.Table.{Memory, lookup, answer_words, list_words, bytes_of}
+use Rattle.rules.specs.Table.{Memory, lookup, answer_words, list_words}
 use Rattle.rules.proofs.Lists.{list_size, list_more}
-use Rattle.c_words.proofs.Bytes.{four_each, bytes_append, sets_append}
-
--- a form in which words are written: each takes so many places
-pub record Form (form : List ℕ → List ℕ) (width : ℕ) : Type 0 where
-  pub none : form [] ≡ []
-  pub append : (one other : List ℕ) → form (one ++ other) ≡ form one ++ form other
-  pub size : (words : List ℕ) → length (form words) ≡ width * length words
-
-pub as_words : Form (λ words. words) 1
-as_words = record { none = refl; append = λ one other. refl; size = λ words. omega arith }
-
-pub as_bytes : Form bytes_of 4
-unfolding bytes_of
-as_bytes = record { none = refl; append = bytes_append; size = four_each }
+use Rattle.words.proofs.Stores.{sets_append}
 
 -- stores that fill a list
-sets_all : (d numbers : List ℕ) → length numbers ≡ length d → sets d 0 numbers ≡ numbers
-sets_all d numbers e =
-    (rw zero-add at (sets-eq numbers d 0 (omega arith)))
-    ∙ ap (λ (rest : List ℕ). numbers ++ rest) (drop_of_length-le d {i = length numbers} (omega arith))
-    ∙ append-nil numbers
+sets_all : {A : Type 0} (d all : List A) → length all ≡ length d → sets d 0 all ≡ all
+sets_all {A} d all e =
+    (rw zero-add at (sets-eq all d 0 (omega arith)))
+    ∙ ap (λ (rest : List A). all ++ rest) (drop_of_length-le d {i = length all} (omega arith))
+    ∙ append-nil all
 
 -- the first i addresses are answered
-pub record Listing (form : List ℕ → List ℕ) (t : Settings) (m : Memory) (party : ℕ) (addresses d now : List ℕ) (i : ℕ) : Type 0 where
-  pub within : i ≤ length addresses
-  pub answers : now ≡ sets d 0 (form (list_words t m party (take i addresses)))
+pub record Listing {A : Type 0} (cells : List ℕ → List A) (t : Settings) (m : Memory) (party : ℕ) (addresses : List ℕ) (d now : List A) (i : ℕ) : Type 0 where
+  pub answers : now ≡ sets d 0 (cells (list_words t m party (take i addresses)))
 
-module _ {form : List ℕ → List ℕ} {width : ℕ} (f : Form form width) (t : Settings) (m : Memory) (party : ℕ) (addresses d : List ℕ) where
-  pub listing_none : Listing form t m party addresses d d 0
-  unfolding list_words
-  listing_none = record { within = omega arith; answers = ap (sets d 0) (sym f.none) }
+pub listing_none : {A : Type 0} {cells : List ℕ → List A} {t : Settings} {m : Memory} {party : ℕ} {addresses : List ℕ} {d : List A}
+    → cells [] ≡ [] → Listing cells t m party addresses d d 0
+unfolding list_words
+listing_none {d} none = record { answers = ap (sets d 0) (sym none) }
 
-  module _ {now : List ℕ} {i : ℕ} (l : Listing form t m party addresses d now i) where
-    -- what is written, and what comes next
-    abbrev so_far : List ℕ
-    so_far = list_words t m party (take i addresses)
+-- each word takes as many cells
+module _ {A : Type 0} {cells : List ℕ → List A} (wide : ℕ) (size : (list : List ℕ) → length (cells list) ≡ wide * length list)
+    {t : Settings} {m : Memory} {party : ℕ} {addresses : List ℕ} {d now : List A} {i : ℕ} (l : Listing cells t m party addresses d now i) where
+  reach : i ≤ length addresses → 4 * wide * i ≡ length (cells (list_words t m party (take i addresses)))
+  reach h =
+      let many : length (list_words t m party (take i addresses)) ≡ 4 * i = list_size t m party (take i addresses) ∙ ap (λ (n : ℕ). 4 * n) (length-take-le i addresses h) in
+      let is = size (list_words t m party (take i addresses)) ∙ ap (λ (n : ℕ). wide * n) many in
+      grind (arith, is)
 
-    abbrev fresh : List ℕ
-    fresh = answer_words (lookup t m party (get_or addresses i 0))
+  pub listing_more : ((one other : List ℕ) → cells (one ++ other) ≡ cells one ++ cells other) → i < length addresses → {next : List A}
+      → next ≡ sets now (4 * wide * i) (cells (answer_words (lookup t m party (get_or addresses i 0)))) → Listing cells t m party addresses d next (i + 1)
+  listing_more append h e =
+      let so_far = list_words t m party (take i addresses) in
+      let fresh = answer_words (lookup t m party (get_or addresses i 0)) in
+      record {
+        answers =
+            e
+            ∙ rw (reach (omega arith), l.answers, list_more t m party addresses i h, append so_far fresh)
+            (rw zero-add at (sets_append d 0 (cells so_far) (cells fresh)));
+      }
 
-    pub listing_size : length now ≡ length d
-    listing_size = ap length l.answers ∙ length-sets d 0 (form so_far)
-
-    reach : length (form so_far) ≡ width * (4 * i)
-    reach = f.size so_far ∙ rw (list_size t m party (take i addresses), length-take-le i addresses l.within)
-
-    pub listing_more : i < length addresses → (place : ℕ) → place ≡ width * (4 * i) → {next : List ℕ}
-        → next ≡ sets now place (form fresh) → Listing form t m party addresses d next (i + 1)
-    listing_more h place at e = record {
-      within = omega arith;
-      answers =
-          e
-          ∙ rw (at ∙ sym reach, l.answers, list_more t m party addresses i h, f.append so_far fresh)
-          (rw zero-add at (sets_append d 0 (form so_far) (form fresh)));
-    }
-
-    pub listing_all : length addresses ≤ i → length d ≡ width * (4 * length addresses) → now ≡ form (list_words t m party addresses)
-    listing_all h full =
-        l.answers
-        ∙ rw (take_all i addresses h)
-        (sets_all d (form (list_words t m party addresses)) (f.size (list_words t m party addresses) ∙ rw (list_size t m party addresses, full)))
+  pub listing_all : length addresses ≤ i → length d ≡ 4 * (wide * length addresses) → now ≡ cells (list_words t m party addresses)
+  listing_all h full =
+      let all = size (list_words t m party addresses) ∙ ap (λ (n : ℕ). wide * n) (list_size t m party addresses) in
+      l.answers ∙ rw (take_all i addresses h) (sets_all d (cells (list_words t m party addresses)) (grind (arith, all, full)))

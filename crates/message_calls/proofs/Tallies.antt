@@ -1,22 +1,19 @@
 -- What is counted of answers, one by one, is what the definitions count of their list.
-use Prim.Native.Nat.{ℕ, ◌+◌, ◌≤◌, ◌<◌}
-use mathlib.Core.Path.{◌≡◌, refl, sym}
-use mathlib.Core.Bool.{Bool, true, false, cond}
+use Prim.Native.Nat.{ℕ, ◌≤◌, ◌<◌}
+use mathlib.Core.Path.{◌≡◌, sym}
 use mathlib.Core.List.{List, [], ◌∷◌, ◌++◌}
 use native.Mathlib.Nat.{zero-add, add-zero, add_assoc}
 use native.Mathlib.Omega.{arith}
-use lib.Dec.{eqb}
 use lib.ListN.{length-append}
-use borrow.Author.Tests.{eqb-true, eqb-false, eq-eqb, ne_eqb}
 use Rattle.rules.specs.declared.Settings.{Settings}
 use Rattle.rules.specs.Tools.{those, count}
-use Rattle.rules.specs.Table.{Memory, one_if}
+use Rattle.rules.specs.Table.{Memory}
 use Rattle.rules.specs.Calls.{Call, act, each, run, accepted_of, refused_of}
 use Rattle.rules.proofs.Calls.{accepted_append, refused_append, counted_all}
 use Rattle.rules.proofs.Members.{count_append, count_few}
 use Rattle.message_format.specs.Reading.{Read, counts}
 use Rattle.message_calls.specs.declared.Counts.{Counts}
-use Rattle.message_calls.specs.Walks.{none_counted, counted, tallied, Few, walked, Updated}
+use Rattle.message_calls.specs.Walks.{none_counted, counted, tallied, Few, Low, walked, Updated}
 
 -- ---- What is counted
 
@@ -27,15 +24,6 @@ tallied_none earlier = simp add-zero
 tallied_append : (earlier : Counts) (answers more : List ℕ) → tallied earlier (answers ++ more) ≡ tallied (tallied earlier answers) more
 unfolding tallied
 tallied_append earlier answers more = simp (accepted_append, refused_append, count_append, add_assoc)
-
--- one answer counts once under its number
-pub counts_once : (number under : ℕ) → one_if (eqb number under) ≡ count under (number ∷ [])
-unfolding one_if count
-counts_once number under = go (eqb number under) refl
-  where
-    go : (b : Bool) → eqb number under ≡ b → cond b 1 0 ≡ cond (eqb under number) 1 0 + 0
-    go true e = rw (eq-eqb under number (sym (eqb-true number under e)))
-    go false e = rw (ne_eqb under number (λ same. eqb-false number under e (sym same)))
 
 -- what a message did, as its call gives it back
 abbrev pub update_reported : Updated → Read
@@ -48,15 +36,6 @@ update_reported u = record {
 pub walk_reported : (t : Settings) (m : Memory) (calls : List Call) → counts (run t m calls) ≡ update_reported (record { refusal = 0; walk = walked t m none_counted calls })
 unfolding walked tallied counts
 walk_reported t m calls = simp zero-add
-
--- no count is above the number of answers
-pub record Low (counts : Counts) (most : ℕ) : Type 0 where
-  pub all_few : counts.accepted + counts.refused ≤ most
-  pub unstored_few : counts.unstored ≤ most
-  pub full_few : counts.full ≤ most
-  pub above_few : counts.above ≤ most
-  pub below_few : counts.below ≤ most
-  pub odd_few : counts.odd ≤ most
 
 pub few_low : {counts : Counts} {most : ℕ} → Few counts most → Low counts most
 unfolding tallied

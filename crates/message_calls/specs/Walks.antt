@@ -1,16 +1,15 @@
 -- The walk over the two parts of a message: the single calls that it makes, what it counts, and what it starts from.
-use Rattle.std.specs.Prelude.{ℕ, zero, suc, ◌+◌, ◌≤◌, ◌<◌, ◌≡◌, Bool, true, cond, List, [], ◌∷◌, map, ◌++◌, leb, eqb, length}
+use Rattle.std.specs.Prelude.{ℕ, zero, suc, ◌+◌, ◌≤◌, ◌<◌, ◌≡◌, true, cond, List, [], ◌∷◌, map, ◌++◌, eqb, length, Result, Ok, Err}
 use Rattle.rules.specs.Tools.{count}
 use Rattle.rules.specs.declared.Settings.{Settings}
+use Rattle.rules.specs.declared.Refusal.{Refusal}
+use Rattle.rules.specs.Numbers.{refusal_number}
 use Rattle.rules.specs.Table.{Memory, lent}
 use Rattle.rules.specs.Calls.{Call, Add, Withdraw, run, accepted_of, refused_of}
-use Rattle.message_format.specs.declared.Report.{Report}
 use Rattle.message_format.specs.Format.{prefixes_fit, prefixes}
 use Rattle.message_format.specs.Reading.{update_refusal, message_calls}
-use Rattle.message_cursors.specs.declared.Prefixes.{Prefixes}
+use Rattle.message_cursors.specs.declared.Cursor.{Cursor}
 use Rattle.message_calls.specs.declared.Counts.{Counts}
-use Rattle.message_calls.specs.declared.Applied.{Applied}
-use Rattle.message_calls.specs.declared.Applied.TheVariants as applied
 use Rattle.message_calls.specs.declared.Task.{Task}
 use Rattle.message_calls.specs.declared.Task.TheVariants as task
 
@@ -21,25 +20,20 @@ unfoldable pub task_call : (party : ℕ) → Task → (p L : ℕ) → Call
 task_call party task.Withdraw p L = Withdraw party p L
 task_call party (task.Add hop) p L = Add party p L hop
 
--- a hop to add with is one that add takes
-unfoldable pub hop_fits : Task → Bool
-hop_fits task.Withdraw = true
-hop_fits (task.Add hop) = leb hop 65535
-
 -- the single calls of a part, in its order
-unfoldable pub part_calls : (party : ℕ) → Task → (message : List ℕ) → Prefixes → List Call
+unfoldable pub part_calls : (party : ℕ) → Task → (message : List ℕ) → Cursor → List Call
 part_calls party task message part = map (λ q. task_call party task q.prefix q.length) (prefixes message part.at part.end)
 
 -- those of both parts: each withdrawn prefix, and then each announced one with the hop
-unfoldable pub both_calls : (party : ℕ) (message : List ℕ) (withdrawn announced : Prefixes) (hop : ℕ) → List Call
+unfoldable pub both_calls : (party : ℕ) (message : List ℕ) (withdrawn announced : Cursor) (hop : ℕ) → List Call
 both_calls party message withdrawn announced hop =
     part_calls party task.Withdraw message withdrawn ++ part_calls party (task.Add hop) message announced
 
 -- ---- Counts
 
--- To count more of the answers, widen `Counts`, `none_counted`, `tallied` and what is made of them, `counts_report`; then mend
--- `count` with its proof, and the laws of proofs/Tallies.antt down to `few_low`. The walk and its proof stay: they know that
--- answers are tallied one by one, and no field.
+-- To count more of the answers, widen `Counts`, `none_counted`, `tallied` and `Low`; then mend `Counts::with`, and the laws of
+-- proofs/Tallies.antt down to `few_low`. The walk and its proof stay: they know that answers are tallied one by one, and no
+-- field.
 
 -- nothing is counted yet
 abbrev pub none_counted : Counts
@@ -68,15 +62,16 @@ pub record Few (counts : Counts) (most : ℕ) : Type 0 where
   pub tally : counts ≡ tallied none_counted answers
   pub few : length answers ≤ most
 
--- ---- Reports
+-- no count is above the number of answers
+pub record Low (counts : Counts) (most : ℕ) : Type 0 where
+  pub all_few : counts.accepted + counts.refused ≤ most
+  pub unstored_few : counts.unstored ≤ most
+  pub full_few : counts.full ≤ most
+  pub above_few : counts.above ≤ most
+  pub below_few : counts.below ≤ most
+  pub odd_few : counts.odd ≤ most
 
--- the report of a refused message
-abbrev pub refused_report : (refusal : ℕ) → Report
-refused_report refusal = record { refusal = refusal; accepted = 0; refused = 0 }
-
--- the report of a message whose calls were counted
-abbrev pub counts_report : Counts → Report
-counts_report counts = record { refusal = 0; accepted = counts.accepted; refused = counts.refused }
+-- ---- Numbers
 
 -- the first of two numbers that is given: the second counts where the first is 0
 unfoldable pub first_number : (number after : ℕ) → ℕ
@@ -107,22 +102,25 @@ pub record Updated : Type 0 where
   pub refusal : ℕ
   pub walk : Walked
 
+-- a walk of a message that is not refused
+abbrev pub accepted_as : Walked → Updated
+accepted_as walk = record { refusal = 0; walk = walk }
+
 -- a message past the checks of the memory and of the party
 unfoldable pub update_done : Settings → Memory → (party : ℕ) (message hops : List ℕ) → Updated
 update_done t m party message hops =
     let refusal = update_refusal message hops in
     cond (eqb refusal 0)
-    (record { refusal = 0; walk = walked t m none_counted (message_calls party message hops) })
+    (accepted_as (walked t m none_counted (message_calls party message hops)))
     (record { refusal = refusal; walk = record { counts = none_counted; memory = m } })
 
--- what an answer means: 12 and 13 are the numbers of the two faults, after which nothing is counted
-unfoldable pub applied_to : Applied → (counters slots : List ℕ) → Updated
-applied_to (applied.Good counts) counters slots = record { refusal = 0; walk = walked_to counts counters slots }
-applied_to applied.Hopless counters slots = record { refusal = 13; walk = walked_to none_counted counters slots }
-applied_to applied.Fault counters slots = record { refusal = 12; walk = walked_to none_counted counters slots }
+-- what a result means: after a refusal nothing is counted
+abbrev pub applied_to : Result Counts Refusal → (counters slots : List ℕ) → Updated
+applied_to (Ok counts) counters slots = accepted_as (walked_to counts counters slots)
+applied_to (Err e) counters slots = record { refusal = refusal_number e; walk = walked_to none_counted counters slots }
 
 -- two parts of a message, one after the other, whose prefixes fit
-pub record Apart (message : List ℕ) (withdrawn announced : Prefixes) : Type 0 where
+pub record Apart (message : List ℕ) (withdrawn announced : Cursor) : Type 0 where
   pub withdrawn_lies : withdrawn.at ≤ withdrawn.end
   pub after_it : withdrawn.end < announced.at
   pub announced_lies : announced.at ≤ announced.end

@@ -1,81 +1,50 @@
 -- What a step gives, by what stands at the cursor.
 use Prim.Native.Nat.{ℕ, ◌+◌, ◌≤◌, ◌<◌}
-use mathlib.Core.Path.{◌≡◌, refl, subst}
+use mathlib.Core.Path.{◌≡◌, refl, subst, ap}
 use mathlib.Core.Bool.{Bool, true, false, not, ◌&&◌}
 use mathlib.Core.List.{List}
 use lib.ListN.{length}
 use lib.Dec.{ltb, leb}
 use native.Mathlib.Omega.{arith}
-use borrow.Author.Tests.{leb-true, ltb-true, ltb-false, lt-ltb, le-ltb, le-leb, lt-leb}
+use borrow.Author.Tests.{leb-true, ltb-true, ltb-false, lt-ltb, le-ltb}
 use Rattle.rules.specs.Table.{refuse}
 use Rattle.rules.proofs.Members.{both}
-use Rattle.message_format.specs.Format.{byte, prefix_from, after_prefix, prefix_fits, extended, type_of, value_from, value_size, after_attribute, attribute_fits}
-use Rattle.message_cursors.specs.declared.Prefixes.{Prefixes}
-use Rattle.message_cursors.specs.declared.NextPrefix.{NextPrefix}
-use Rattle.message_cursors.specs.declared.NextPrefix.TheVariants as prefix
-use Rattle.message_cursors.specs.declared.Attributes.{Attributes}
-use Rattle.message_cursors.specs.declared.NextAttribute.{NextAttribute}
-use Rattle.message_cursors.specs.declared.NextAttribute.TheVariants as attribute
-use Rattle.message_cursors.specs.Steps.{step, read_prefix, next_prefix, prefix_number, read_attribute, next_attribute, attribute_number}
-
--- ---- What fits
-
-module _ (bytes : List ℕ) (at : ℕ) where
-  pub long : extended bytes at ≡ true → value_from bytes at ≡ at + 4
-  unfolding value_from
-  long e = rw e
-
-  module _ (end : ℕ) where
-    pub fits_so : byte bytes at ≤ 32 → after_prefix bytes at ≤ end → prefix_fits bytes at end ≡ true
-    unfolding prefix_fits
-    fits_so b e = simp (le-leb _ _ b, le-leb _ _ e)
-
-    pub fits_not_long : 32 < byte bytes at → prefix_fits bytes at end ≡ false
-    unfolding prefix_fits
-    fits_not_long b = simp (lt-leb _ _ b)
-
-    pub fits_not_over : byte bytes at ≤ 32 → end < after_prefix bytes at → prefix_fits bytes at end ≡ false
-    unfolding prefix_fits
-    fits_not_over b e = simp (le-leb _ _ b, lt-leb _ _ e)
-
-    pub whole_so : value_from bytes at ≤ end → after_attribute bytes at ≤ end → attribute_fits bytes at end ≡ true
-    unfolding attribute_fits
-    whole_so b e = simp (le-leb _ _ b, le-leb _ _ e)
-
-    pub header_over : end < value_from bytes at → attribute_fits bytes at end ≡ false
-    unfolding attribute_fits
-    header_over b = simp (lt-leb _ _ b)
-
-    pub value_over : value_from bytes at ≤ end → end < after_attribute bytes at → attribute_fits bytes at end ≡ false
-    unfolding attribute_fits
-    value_over b e = simp (le-leb _ _ b, lt-leb _ _ e)
+use Rattle.message_format.specs.Format.{prefix_fits, value_from, value_size, after_attribute, attribute_fits}
+use Rattle.std.specs.Prelude.{Result, Ok, Err, Option, Some, None}
+use Rattle.rules.specs.declared.Refusal.{Refusal}
+use Rattle.rules.specs.declared.Refusal.TheVariants.{Malformed}
+use Rattle.rules.specs.Numbers.{number_given}
+use Rattle.message_cursors.specs.declared.Cursor.{Cursor}
+use Rattle.message_cursors.specs.declared.PrefixRead.{PrefixRead}
+use Rattle.message_cursors.specs.declared.AttributeRead.{AttributeRead}
+use Rattle.message_cursors.specs.Steps.{step, read_prefix, next_prefix, read_attribute, next_attribute}
 
 -- ---- A step, by what is tested
 
-module _ {A : Type 0} (size at end : ℕ) (fits : Bool) (read nothing fault : A) where
-  abbrev stepped : A
-  stepped = step size at end fits read nothing fault
+module _ {A : Type 0} (size at end : ℕ) (fits : Bool) (read : A) where
+  abbrev stepped : Result (Option A) Refusal
+  stepped = step size at end fits read
 
-  pub outside : size < end → stepped ≡ fault
+  pub outside : size < end → stepped ≡ Err Malformed
   unfolding step
   outside l = simp (lt-ltb _ _ l)
 
   module _ (inside : end ≤ size) where
-    pub ended : end ≤ at → stepped ≡ nothing
+    pub ended : end ≤ at → stepped ≡ Ok None
     unfolding step
     ended e = simp (le-ltb _ _ inside, le-ltb _ _ e)
 
     module _ (more : at < end) where
-      pub faulty : fits ≡ false → stepped ≡ fault
+      pub faulty : fits ≡ false → stepped ≡ Err Malformed
       unfolding step
       faulty f = simp (le-ltb _ _ inside, lt-ltb _ _ more, f)
 
-      pub moved : fits ≡ true → stepped ≡ read
+      pub moved : fits ≡ true → stepped ≡ Ok (Some read)
       unfolding step
       moved f = simp (le-ltb _ _ inside, lt-ltb _ _ more, f)
 
     -- whatever is so in each of the three cases is so of the step
-    pub by_step : (P : A → Type 0) → (at < end → fits ≡ true → P read) → (end ≤ at → P nothing) → (at < end → fits ≡ false → P fault) → P stepped
+    pub by_step : (P : Result (Option A) Refusal → Type 0) → (at < end → fits ≡ true → P (Ok (Some read))) → (end ≤ at → P (Ok None)) → (at < end → fits ≡ false → P (Err Malformed)) → P stepped
     by_step P reads ends faults = go (ltb at end) fits refl refl
       where
         go : (l f : Bool) → ltb at end ≡ l → fits ≡ f → P stepped
@@ -83,77 +52,63 @@ module _ {A : Type 0} (size at end : ℕ) (fits : Bool) (read nothing fault : A)
         go true false el ef = rw (faulty (ltb-true _ _ el) ef) (faults (ltb-true _ _ el) ef)
         go false f el ef = rw (ended (ltb-false _ _ el)) (ends (ltb-false _ _ el))
 
-    -- a step whose fault alone has a number, 12, has it exactly if something is left that does not fit
-    step_number : (number : A → ℕ) → number read ≡ 0 → number nothing ≡ 0 → number fault ≡ 12 → number stepped ≡ refuse (ltb at end && not fits) 12 0
+    -- a step has number 12 exactly if something is left that does not fit
+    pub step_number : number_given stepped ≡ refuse (ltb at end && not fits) 12 0
     unfolding refuse
-    step_number number reads ends faults = by_step (λ answer. number answer ≡ refuse (ltb at end && not fits) 12 0)
-        (λ more fit. rw (lt-ltb _ _ more, fit) reads)
-        (λ past. rw (le-ltb _ _ past) ends)
-        (λ more unfit. rw (lt-ltb _ _ more, unfit) faults)
+    step_number = by_step (λ answer. number_given answer ≡ refuse (ltb at end && not fits) 12 0)
+        (λ more fit. rw (lt-ltb _ _ more, fit) refl)
+        (λ past. rw (le-ltb _ _ past) refl)
+        (λ more unfit. rw (lt-ltb _ _ more, unfit) refl)
 
 -- ---- What a step's answer means, and what it tells
 
--- Number 12 is meant exactly where a prefix is left that does not fit,
-pub prefix_refused : (bytes : List ℕ) (c : Prefixes) → c.end ≤ length bytes
-    → prefix_number (next_prefix bytes c) ≡ refuse (ltb c.at c.end && not (prefix_fits bytes c.at c.end)) 12 0
-unfolding next_prefix read_prefix prefix_number
-prefix_refused bytes c inside = step_number _ _ _ _ _ _ _ inside prefix_number refl refl refl
+-- A step is refused with 12 exactly where a prefix is left that does not fit,
+pub prefix_refused : (bytes : List ℕ) (c : Cursor) → c.end ≤ length bytes
+    → number_given (next_prefix bytes c) ≡ refuse (ltb c.at c.end && not (prefix_fits bytes c.at c.end)) 12 0
+unfolding next_prefix
+prefix_refused bytes c inside = step_number _ _ _ _ _ inside
 
 -- or an attribute.
-pub attribute_refused : (bytes : List ℕ) (c : Attributes) → c.end ≤ length bytes
-    → attribute_number (next_attribute bytes c) ≡ refuse (ltb c.at c.end && not (attribute_fits bytes c.at c.end)) 12 0
-unfolding next_attribute read_attribute attribute_number
-attribute_refused bytes c inside = step_number _ _ _ _ _ _ _ inside attribute_number refl refl refl
+pub attribute_refused : (bytes : List ℕ) (c : Cursor) → c.end ≤ length bytes
+    → number_given (next_attribute bytes c) ≡ refuse (ltb c.at c.end && not (attribute_fits bytes c.at c.end)) 12 0
+unfolding next_attribute
+attribute_refused bytes c inside = step_number _ _ _ _ _ inside
 
--- a prefix was read, and the cursor moved past it
-pub record Moved (bytes : List ℕ) (c : Prefixes) (p L : ℕ) (rest : Prefixes) : Type 0 where
+-- something is left at the cursor, and it fits
+pub record Moved {A : Type 0} (c : Cursor) (good : Bool) (there here : A) : Type 0 where
   pub more : c.at < c.end
-  pub fits : prefix_fits bytes c.at c.end ≡ true
-  pub prefix : p ≡ (prefix_from bytes c.at).prefix
-  pub length : L ≡ (prefix_from bytes c.at).length
-  pub now_at : rest ≡ record { at = after_prefix bytes c.at; end = c.end }
+  pub fits : good ≡ true
+  pub read : here ≡ there
 
-abbrev pub Told : (bytes : List ℕ) → Prefixes → NextPrefix → Type 0
-Told bytes c (prefix.Prefix p L rest) = Moved bytes c p L rest
-Told bytes c prefix.End = c.end ≤ c.at
-Told bytes c prefix.Fault = (c.at < c.end) × (prefix_fits bytes c.at c.end ≡ false)
+-- what an answer tells: what was read there, that nothing is left, or that what is left does not fit
+abbrev pub Told : {A : Type 0} → Cursor → (good : Bool) (there : A) → Result (Option A) Refusal → Type 0
+Told c good there (Ok (Some here)) = Moved c good there here
+Told c good there (Ok None) = c.end ≤ c.at
+Told c good there (Err e) = (e ≡ Malformed) × ((c.at < c.end) × (good ≡ false))
 
-pub told : (bytes : List ℕ) (c : Prefixes) → c.end ≤ length bytes → {answer : NextPrefix} → next_prefix bytes c ≡ answer → Told bytes c answer
-unfolding next_prefix read_prefix
-told bytes c inside given =
-    subst (Told bytes c) given
-    (by_step _ _ _ _ _ _ _ inside (Told bytes c)
-    (λ more fits. record { more = more; fits = fits; prefix = refl; length = refl; now_at = refl })
+told : {A : Type 0} {size : ℕ} (c : Cursor) (good : Bool) (there : A) → c.end ≤ size → {answer : Result (Option A) Refusal} → step size c.at c.end good there ≡ answer
+    → Told c good there answer
+told c good there inside given =
+    subst (Told c good there) given
+    (by_step _ _ _ _ _ inside (Told c good there)
+    (λ more fits. record { more = more; fits = fits; read = refl })
     (λ e. e)
-    (λ more fault. (more, fault)))
+    (λ more fault. (refl, (more, fault))))
 
--- an attribute was read, and the cursor moved past it
-pub record MovedOn (bytes : List ℕ) (c : Attributes) (kind from size : ℕ) (rest : Attributes) : Type 0 where
-  pub more : c.at < c.end
-  pub fits : attribute_fits bytes c.at c.end ≡ true
-  pub type : kind ≡ type_of bytes c.at
-  pub value : from ≡ value_from bytes c.at
-  pub sized : size ≡ value_size bytes c.at
-  pub now_at : rest ≡ record { at = after_attribute bytes c.at; end = c.end }
+pub prefix_told : (bytes : List ℕ) (c : Cursor) → c.end ≤ length bytes → {answer : Result (Option PrefixRead) Refusal} → next_prefix bytes c ≡ answer
+    → Told c (prefix_fits bytes c.at c.end) (read_prefix bytes c) answer
+unfolding next_prefix
+prefix_told bytes c inside given = told _ _ _ inside given
 
-abbrev pub ToldOf : (bytes : List ℕ) → Attributes → NextAttribute → Type 0
-ToldOf bytes c (attribute.Attribute kind from size rest) = MovedOn bytes c kind from size rest
-ToldOf bytes c attribute.End = c.end ≤ c.at
-ToldOf bytes c attribute.Fault = (c.at < c.end) × (attribute_fits bytes c.at c.end ≡ false)
-
-pub told_of : (bytes : List ℕ) (c : Attributes) → c.end ≤ length bytes → {answer : NextAttribute} → next_attribute bytes c ≡ answer → ToldOf bytes c answer
-unfolding next_attribute read_attribute
-told_of bytes c inside given =
-    subst (ToldOf bytes c) given
-    (by_step _ _ _ _ _ _ _ inside (ToldOf bytes c)
-    (λ more fits. record { more = more; fits = fits; type = refl; value = refl; sized = refl; now_at = refl })
-    (λ e. e)
-    (λ more fault. (more, fault)))
+pub attribute_told : (bytes : List ℕ) (c : Cursor) → c.end ≤ length bytes → {answer : Result (Option AttributeRead) Refusal} → next_attribute bytes c ≡ answer
+    → Told c (attribute_fits bytes c.at c.end) (read_attribute bytes c) answer
+unfolding next_attribute
+attribute_told bytes c inside given = told _ _ _ inside given
 
 -- a value of four bytes is there to be read
-pub value_inside : {bytes : List ℕ} {c : Attributes} {kind from size : ℕ} {rest : Attributes} → MovedOn bytes c kind from size rest → size ≡ 4 → c.end ≤ length bytes
-    → from + 4 ≤ length bytes
-unfolding attribute_fits after_attribute
-value_inside {bytes} {c} m four inside =
+pub value_inside : (bytes : List ℕ) (c : Cursor) {read : AttributeRead} → Moved c (attribute_fits bytes c.at c.end) (read_attribute bytes c) read → read.size ≡ 4 → c.end ≤ length bytes
+    → read.from + 4 ≤ length bytes
+unfolding attribute_fits after_attribute read_attribute
+value_inside bytes c m four inside =
     let over : value_from bytes c.at + value_size bytes c.at ≤ c.end = leb-true _ _ (both (leb (value_from bytes c.at) c.end) _ m.fits).1 in
-    rw m.value (omega (arith, m.sized, four))
+    rw m.read (omega (arith, ap (λ (r : AttributeRead). r.size) m.read, four))

@@ -3,6 +3,7 @@ pub mod Alone
 pub mod Counting
 pub mod Given
 pub mod Octets
+pub mod Reports
 pub mod Walks
 pub mod Words
 pub mod Worked

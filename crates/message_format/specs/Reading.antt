@@ -5,7 +5,6 @@ use Rattle.rules.specs.Tools.{lowest}
 use Rattle.rules.specs.declared.Settings.{Settings}
 use Rattle.rules.specs.Table.{Memory, lent, refuse, party_refusal}
 use Rattle.rules.specs.Calls.{Call, Add, Withdraw, Run, run, accepted_of, refused_of}
-use Rattle.message_format.specs.declared.Report.{Report}
 use Rattle.message_format.specs.Format.{Prefix, well_formed, announces, message_hop, withdrawn_prefixes, announced_prefixes}
 
 -- ---- The list of next hops
@@ -55,6 +54,13 @@ unfoldable pub message_calls : (party : ℕ) (message hops : List ℕ) → List 
 message_calls party message hops =
     withdrawals party (withdrawn_prefixes message)
     ++ announcements party (hop_in message hops) (announced_prefixes message)
+
+-- what a message is given back: how many of its routes the table accepted and how many it refused; or a refusal's
+-- number and zeros
+pub record Report : Type 0 where
+  pub refusal : ℕ
+  pub accepted : ℕ
+  pub refused : ℕ
 
 -- what a message gives back and leaves
 pub record Read : Type 0 where

@@ -3,11 +3,9 @@
 // withdrawal is written. There is no code here: only the type that the call and its definition share.
 #![tactic(auto)]
 
-// What a message is given back: how many of its routes the table accepted and how many it refused; or a
-// refusal's number and zeros.
-#[derive(Clone, Copy)]
+// What an accepted message is given back: how many of its routes the table accepted and how many it refused.
+#[derive(Clone, Copy, Debug, PartialEq, Eq)]
 pub struct Report {
-    pub refusal: u32,
     pub accepted: u32,
     pub refused: u32,
 }

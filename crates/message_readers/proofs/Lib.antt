@@ -1,4 +1,4 @@
--- The laws of reading a part, a list and a header.
+-- The laws of reading that other crates cite.
 pub mod Headers
 pub mod Parts
 pub mod Places

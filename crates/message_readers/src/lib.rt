@@ -2,198 +2,127 @@
 // its NEXT_HOP, and the place of that in a list of next hops.
 #![tactic(auto)]
 
-ghost use Rattle.std.specs.Prelude.{◌≡◌, ◌≤◌, length};
-ghost use Rattle.message_format.specs.Format.{prefixes_fit, all_ones, header_good};
-ghost use Rattle.message_readers.specs.Readings.{hop_read, hop_found, hop_due, message_read};
+ghost use Rattle.std.specs.Prelude.{◌≡◌, ◌≤◌, ◌==◌, length, take, position};
+ghost use Rattle.message_format.specs.Format.{all_ones, header_good};
+ghost use Rattle.message_readers.specs.Readings.{prefixes_read, hop_read, hop_found, hop_due, message_read};
 
-use message_cursors::{Attributes, NextAttribute, NextPrefix, Prefixes, four_bytes, two_bytes};
+use message_cursors::{Cursor, four_bytes, two_bytes};
+use rules::Refusal;
 
-// The NEXT_HOP among attributes: its address, where there is one.
+// A message: where the withdrawn routes end and the announced ones begin, and its NEXT_HOP.
 #[derive(Clone, Copy)]
-pub enum NextHop {
-    Missing,
-    Given(u32),
+pub struct Message {
+    pub withdrawn_to: usize,
+    pub announced_from: usize,
+    pub next_hop: Option<u32>,
 }
 
-// What a part's attributes hold, or a fault in them.
-#[derive(Clone, Copy)]
-pub enum HopRead {
-    Good(NextHop),
-    Fault,
-}
-
-// A hop number: the lowest place of an address in the list, where it has one up to 65,535.
-#[derive(Clone, Copy)]
-pub enum Hop {
-    At(u32),
-    Missing,
-}
-
-// A message: where the withdrawn routes end and the announced ones begin, and its NEXT_HOP; or a fault.
-#[derive(Clone, Copy)]
-pub enum Message {
-    Good {
-        withdrawn_to: usize,
-        announced_from: usize,
-        next_hop: NextHop,
-    },
-    Fault,
-}
-
-// Whether the prefixes of a part all fit.
-pub fn prefixes_fit(bytes: &[u8], from: usize, to: usize) -> bool
+// Reads the prefixes of a part, every one of them to its end.
+#[tactic(auto, using(crate::proofs::Parts::all_read, crate::proofs::Parts::one_unfit, crate::proofs::Parts::goes_less), unfolding(crate::specs::Readings::prefixes_read))]
+fn read_prefixes(bytes: &[u8], from: usize, to: usize) -> Result<(), Refusal>
     requires { to ≤ length bytes.now }
-    ensures { result ≡ prefixes_fit bytes.now from to }
+    ensures { result ≡ prefixes_read bytes.now from to }
 {
-    let mut rest = Prefixes { at: from, end: to };
-    loop {
-        match rest.next(bytes) {
-            NextPrefix::Prefix {
-                prefix: _,
-                length: _,
-                rest: after,
-            } => {
-                rest = after;
-            }
-            NextPrefix::End => {
-                return true;
-            }
-            NextPrefix::Fault => {
-                return false;
-            }
-        }
+    let mut rest = Cursor { at: from, end: to };
+    while let Some(read) = rest.next_prefix(bytes)? {
+        rest = read.rest;
     }
+    Ok(())
 }
 
 // The NEXT_HOP of a part's attributes, all of which are read.
-pub fn read_hop(bytes: &[u8], from: usize, to: usize) -> HopRead
+#[tactic(auto, using(crate::proofs::Parts::none_left, crate::proofs::Parts::one_broken, crate::proofs::Parts::looks_less, crate::proofs::Parts::four_inside, crate::proofs::Parts::wrong_size, crate::proofs::Parts::two_hops), unfolding(crate::proofs::Parts::hop_from))]
+pub fn read_hop(bytes: &[u8], from: usize, to: usize) -> Result<Option<u32>, Refusal>
     requires { to ≤ length bytes.now }
     ensures { result ≡ hop_read bytes.now from to }
 {
-    let mut rest = Attributes { at: from, end: to };
-    let mut found = NextHop::Missing;
-    loop {
-        match rest.next(bytes) {
-            NextAttribute::Attribute {
-                kind,
-                from: value,
-                size,
-                rest: after,
-            } => {
-                if kind == 3 {
-                    if size != 4 {
-                        return HopRead::Fault;
-                    }
-                    if let NextHop::Given(_) = found {
-                        return HopRead::Fault;
-                    }
-                    found = NextHop::Given(four_bytes(bytes, value));
-                }
-                rest = after;
+    let mut rest = Cursor { at: from, end: to };
+    let mut found = None;
+    while let Some(read) = rest.next_attribute(bytes)? {
+        if read.kind == 3 {
+            if read.size != 4 || found.is_some() {
+                return Err(Refusal::Malformed);
             }
-            NextAttribute::End => {
-                return HopRead::Good(found);
-            }
-            NextAttribute::Fault => {
-                return HopRead::Fault;
-            }
+            found = Some(four_bytes(bytes, read.from));
         }
+        rest = read.rest;
     }
+    Ok(found)
 }
 
-// The hop number of an address.
-fn find_hop(hops: &[u32], address: u32) -> Hop
+// The lowest place of an address among the first 65,536 of the list.
+fn place_of(hops: &[u32], address: u32) -> Option<usize>
+    ensures { result ≡ position (λ hop. hop == address) (take 65536 hops.now) }
+{
+    hops.iter().take(65536).position(|hop| *hop == address)
+}
+
+// The hop number of an address: its lowest place in the list, where it has one up to 65,535.
+#[tactic(auto, using(crate::proofs::Places::found_at))]
+fn find_hop(hops: &[u32], address: u32) -> Option<u16>
     ensures { result ≡ hop_found hops.now address }
 {
-    let mut i = 0;
-    while i < hops.len() {
-        if i > 65535 {
-            return Hop::Missing;
-        }
-        if hops[i] == address {
-            return Hop::At(i as u32);
-        }
-        i += 1;
-    }
-    Hop::Missing
+    let place = place_of(hops, address)?;
+    Some(place as u16)
 }
 
 // The hop of what a message announces; where that is nothing, no hop is wanted, and 0 will do.
-pub fn hop_due(announces: bool, next: NextHop, hops: &[u32]) -> Hop
-    ensures { result ≡ hop_due announces next hops.now }
+#[tactic(auto, unfolding(crate::specs::Readings::hop_due))]
+pub fn hop_due(announces: bool, next_hop: Option<u32>, hops: &[u32]) -> Option<u16>
+    ensures { result ≡ hop_due announces next_hop hops.now }
 {
     if !announces {
-        return Hop::At(0);
+        return Some(0);
     }
-    let NextHop::Given(address) = next else {
-        return Hop::Missing;
-    };
-    find_hop(hops, address)
+    find_hop(hops, next_hop?)
 }
 
-// Whether the first bytes, so many of them, are all ones. Nearly all are, so the loop looks at all of them, which
-// the compiler can do at once.
-fn all_ones(bytes: &[u8], count: usize) -> bool
-    requires { count ≤ length bytes.now }
-    ensures { result ≡ all_ones bytes.now count }
+// Whether all bytes are ones. Nearly always they are, so each is looked at, whatever those before it are, which the
+// compiler can do at once.
+#[tactic(auto, unfolding(message_format::specs::Format::all_ones, message_format::specs::Format::byte))]
+fn all_ones(bytes: &[u8]) -> bool
+    ensures { result ≡ all_ones bytes.now (length bytes.now) }
 {
-    let mut i = 0;
     let mut ones = true;
-    while i < count {
-        if bytes[i] != 255 {
-            ones = false;
-        }
-        i += 1;
+    for byte in bytes {
+        ones &= *byte == 255;
     }
     ones
 }
 
 // Whether marker, length and type are those of an UPDATE of as many bytes as are lent.
+#[tactic(auto, using(std::proofs::lemmas::Bool::Decides::nat_tests), unfolding(message_format::specs::Format::header_good, message_format::specs::Format::byte, rules::specs::Tools::within))]
 fn header_good(message: &[u8]) -> bool
     ensures { result ≡ header_good message.now }
 {
-    if message.len() < 23 {
+    if !(23..=4096).contains(&message.len()) || !all_ones(&message[..16]) {
         return false;
     }
-    if message.len() > 4096 {
-        return false;
-    }
-    if !all_ones(message, 16) {
-        return false;
-    }
-    if two_bytes(message, 16) as usize != message.len() {
-        return false;
-    }
-    message[18] == 2
+    two_bytes(message, 16) as usize == message.len() && message[18] == 2
 }
 
 // Reads a message from end to end.
-pub fn read_message(message: &[u8]) -> Message
+#[tactic(auto, using(crate::proofs::Headers::header_size, std::proofs::lemmas::Bool::Decides::nat_tests), unfolding(crate::specs::Readings::message_read, crate::specs::Readings::hop_read, crate::specs::Readings::prefixes_read, message_format::specs::Format::well_formed, message_format::specs::Format::parts_fit, message_format::specs::Format::contents_good, message_format::specs::Format::withdrawn_to, message_format::specs::Format::attributes_from, message_format::specs::Format::announced_from, message_format::specs::Format::message_hop))]
+pub fn read_message(message: &[u8]) -> Result<Message, Refusal>
     ensures { result ≡ message_read message.now }
 {
     if !header_good(message) {
-        return Message::Fault;
+        return Err(Refusal::Malformed);
     }
     let withdrawn_to = 21 + two_bytes(message, 19) as usize;
     if withdrawn_to + 2 > message.len() {
-        return Message::Fault;
+        return Err(Refusal::Malformed);
     }
     let announced_from = withdrawn_to + 2 + two_bytes(message, withdrawn_to) as usize;
     if announced_from > message.len() {
-        return Message::Fault;
+        return Err(Refusal::Malformed);
     }
-    if !prefixes_fit(message, 21, withdrawn_to) {
-        return Message::Fault;
-    }
-    let HopRead::Good(next_hop) = read_hop(message, withdrawn_to + 2, announced_from) else {
-        return Message::Fault;
-    };
-    if !prefixes_fit(message, announced_from, message.len()) {
-        return Message::Fault;
-    }
-    Message::Good {
+    read_prefixes(message, 21, withdrawn_to)?;
+    let next_hop = read_hop(message, withdrawn_to + 2, announced_from)?;
+    read_prefixes(message, announced_from, message.len())?;
+    Ok(Message {
         withdrawn_to,
         announced_from,
         next_hop,
-    }
+    })
 }

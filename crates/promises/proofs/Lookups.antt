@@ -11,12 +11,11 @@ use native.Mathlib.Omega.{arith}
 use lib.ListN.{length}
 use lib.Dec.{eqb, leb, ltb, leb-zero}
 use borrow.Author.Tests.{eqb-true, eq-eqb, le-leb, lt-leb, ltb-true, ltb-false}
+use Rattle.std.specs.Prelude.{None}
 use Rattle.rules.specs.declared.Settings.{Settings}
 use Rattle.rules.specs.declared.Place.TheVariants.{At, Absent}
-use Rattle.rules.specs.declared.Vacancy.TheVariants.{Full}
-use Rattle.rules.specs.declared.Answer.{Answer}
+use Rattle.rules.specs.Table.{Answer, prefix, positions, Memory, slot_number, own, hop_of, mark_at, default_mark, held, claims, bits_where, vector_of, match_vector, down_from, search, route_answer, default_answer, place_answer, refused, answer_of, lookup}
 use Rattle.rules.specs.Tools.{those}
-use Rattle.rules.specs.Table.{prefix, positions, Memory, slot_number, own, hop_of, mark_at, default_mark, held, claims, bits_where, vector_of, match_vector, down_from, search, route_answer, default_answer, place_answer, refused, answer_of, lookup}
 use Rattle.rules.specs.Ready.{Ready}
 use Rattle.rules.proofs.Members.{all_made, any_made}
 use Rattle.rules.proofs.Marks.{hop_marked}
@@ -51,13 +50,13 @@ module _ (t : Settings) (slots : List ℕ) (party address : ℕ) (claimed : ℕ 
   Misses L = held t slots party (prefix address L) L ≡ none
 
   -- where no length holds it, the search finds nothing
-  search_misses : (n k : ℕ) → ((L : ℕ) → 1 ≤ L → L ≤ n → Misses L) → search t slots party address k (those claimed (down_from n)) ≡ Absent Full
+  search_misses : (n k : ℕ) → ((L : ℕ) → 1 ≤ L → L ≤ n → Misses L) → search t slots party address k (those claimed (down_from n)) ≡ Absent None
   unfolding search those down_from
   search_misses zero k none_held = refl
   search_misses (suc n) k none_held = go (claimed (suc n)) (λ j. search_misses n j (λ L lo hi. none_held L lo (le_step hi)))
     where
-      go : (b : Bool) → ((j : ℕ) → search t slots party address j (those claimed (down_from n)) ≡ Absent Full)
-          → search t slots party address k (cond b (suc n ∷ those claimed (down_from n)) (those claimed (down_from n))) ≡ Absent Full
+      go : (b : Bool) → ((j : ℕ) → search t slots party address j (those claimed (down_from n)) ≡ Absent None)
+          → search t slots party address k (cond b (suc n ∷ those claimed (down_from n)) (those claimed (down_from n))) ≡ Absent None
       go true rest = rw (none_held (suc n) (omega arith) (le_refl (suc n))) (rest (k + 1))
       go false rest = rest k
 

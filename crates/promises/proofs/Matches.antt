@@ -11,9 +11,7 @@ use native.Mathlib.Omega.{arith}
 use lib.Dec.{ltb}
 use borrow.Author.Tests.{ltb-true, ltb-false}
 use Rattle.rules.specs.declared.Settings.{Settings}
-use Rattle.rules.specs.declared.Answer.{Answer}
-use Rattle.rules.specs.declared.Vector.{Vector}
-use Rattle.rules.specs.Table.{bits_where}
+use Rattle.rules.specs.Table.{Answer, Vector, bits_where}
 use Rattle.promises.specs.History.{Route}
 use Rattle.promises.specs.Demands.{matches, Longest, longer, longest, NoMatch, covered, probes_down_to}
 

@@ -9,9 +9,8 @@ use native.Mathlib.Omega.{arith}
 use lib.Dec.{eqb, lit<, lit≤}
 use lib.ListN.{replicate, get_or}
 use Rattle.rules.specs.declared.Settings.{Settings}
-use Rattle.rules.specs.declared.Answer.{Answer}
+use Rattle.rules.specs.Table.{Answer, bucket, Memory, refused, lookup, match_vector, lookup_list}
 use Rattle.rules.specs.Tools.{all}
-use Rattle.rules.specs.Table.{bucket, Memory, refused, lookup, match_vector, lookup_list}
 use Rattle.rules.specs.Calls.{Call, Clear, Add, Withdraw, Change, word_sized, all_word_sized, act, run}
 use Rattle.rules.proofs.Worked.{ip, T}
 use Rattle.promises.specs.History.{Route, routes_of, route, stored_by, History}

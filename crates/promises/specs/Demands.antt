@@ -4,8 +4,7 @@ use mathlib.Core.List.{List, [], ◌∷◌, ◌++◌, map, Memᴰ}
 use Rattle.std.proofs.Math.Option.{Option, some, none}
 use Rattle.rules.specs.Tools.{all, any, count, those}
 use Rattle.rules.specs.declared.Settings.{Settings}
-use Rattle.rules.specs.declared.Answer.{Answer}
-use Rattle.rules.specs.Table.{prefix, positions, bucket, filter_bits, Memory, counters_size, counter_place, counter_places, slots_size, slot_number, own, occupied, mark_at, prefix_at, default_mark, refuse, loose, odd_prefix, from_1, hits, down_from}
+use Rattle.rules.specs.Table.{Answer, prefix, positions, bucket, filter_bits, Memory, counters_size, counter_place, counter_places, slots_size, slot_number, own, occupied, mark_at, prefix_at, default_mark, refuse, loose, odd_prefix, from_1, hits, down_from}
 use Rattle.rules.specs.Calls.{Call, Clear, Add, Withdraw, Change, Run, each}
 use Rattle.promises.specs.History.{Route, about, noted}
 

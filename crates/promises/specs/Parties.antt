@@ -1,6 +1,6 @@
 -- What one party did in a history, and when two of its lookups tell it the same.
 use Rattle.std.specs.Prelude.{ℕ, ◌≡◌, Bool, true, false, cond, List, [], ◌∷◌, eqb}
-use Rattle.rules.specs.declared.Answer.{Answer}
+use Rattle.rules.specs.Table.{Answer}
 use Rattle.rules.specs.Calls.{Call, Clear, Add, Withdraw, Change}
 
 -- the call is the party's; a clear is nobody's

@@ -1,13 +1,15 @@
 // What a call checks before it looks into the memory: an update 1, 2, 15, 3 and 4 of its party and its route,
-// and 5 of its hop; an add 11 between them; a list of addresses 1, 2, 15 and 18. 0 is no refusal.
+// and 5 of its hop; an add 11 between them; a list of addresses 1, 2, 15 and 18. What passes gives the party, and the
+// hop as a number of 16 bits.
 #![tactic(auto)]
 
-ghost use Rattle.std.specs.Prelude.{◌≡◌, ltb, length};
+ghost use Rattle.std.specs.Prelude.{◌≡◌, ltb, length, IfOk};
 ghost use Rattle.rules.specs.Table.{Memory, lent, refuse, party_refusal, add_checks, route_refusal, list_refusal};
+ghost use Rattle.rules.specs.Numbers.{party_number, number_given};
 
 use prefixes::{is_odd, prefix_of};
-use rules::Settings;
-use settings::{refuse_memory, refuse_party_sizes};
+use rules::{Party, Refusal, Settings};
+use settings::{refuse_party, refuse_party_sizes};
 
 // 1, 2, 15, 3 and 4, which every update checks.
 pub fn refuse_route(
@@ -17,33 +19,26 @@ pub fn refuse_route(
     party: u32,
     p: u32,
     length: u32,
-) -> u32
-    ensures { result ≡ route_refusal settings (lent counters.now slots.now) party p length 0 }
+) -> Result<Party, Refusal>
+    ensures refusal { number_given result ≡ route_refusal settings (lent counters.now slots.now) party p length 0 }
+    ensures known { IfOk result (λ whose. party_number whose ≡ party) }
 {
-    let refusal = refuse_memory(settings, counters, slots);
-    if refusal != 0 {
-        return refusal;
-    }
-    if 1 < party {
-        return 15;
-    }
+    let whose = refuse_party(settings, counters, slots, party)?;
     if 32 < length {
-        return 3;
+        return Err(Refusal::TooLong);
     }
     if prefix_of(p, length) != p {
-        return 4;
+        return Err(Refusal::Loose);
     }
-    0
+    Ok(whose)
 }
 
 // 5, which a hop above 65,535 gets.
-fn refuse_high(hop: u32) -> u32
-    ensures { result ≡ refuse (ltb 65535 hop) 5 0 }
+fn refuse_high(hop: u32) -> Result<u16, Refusal>
+    ensures refusal { number_given result ≡ refuse (ltb 65535 hop) 5 0 }
+    ensures low { IfOk result (λ low. low ≡ hop) }
 {
-    if 65535 < hop {
-        return 5;
-    }
-    0
+    u16::try_from(hop).or(Err(Refusal::HighHop))
 }
 
 // These and 5, which a change checks.
@@ -55,14 +50,15 @@ pub fn refuse_hop(
     p: u32,
     length: u32,
     hop: u32,
-) -> u32
-    ensures { result ≡ route_refusal settings (lent counters.now slots.now) party p length (refuse (ltb 65535 hop) 5 0) }
+) -> Result<(Party, u16), Refusal>
+    ensures refusal { number_given result ≡ route_refusal settings (lent counters.now slots.now) party p length (refuse (ltb 65535 hop) 5 0) }
+    ensures known { IfOk result (λ r. party_number r.0 ≡ party) }
+    ensures low { IfOk result (λ r. r.1 ≡ hop) }
 {
-    let refusal = refuse_route(settings, counters, slots, party, p, length);
-    if refusal != 0 {
-        return refusal;
-    }
-    refuse_high(hop)
+    Ok((
+        refuse_route(settings, counters, slots, party, p, length)?,
+        refuse_high(hop)?,
+    ))
 }
 
 // These, 11 and 5, which an add checks.
@@ -74,17 +70,16 @@ pub fn refuse_add(
     p: u32,
     length: u32,
     hop: u32,
-) -> u32
-    ensures { result ≡ party_refusal settings (lent counters.now slots.now) party (add_checks p length hop 0) }
+) -> Result<(Party, u16), Refusal>
+    ensures refusal { number_given result ≡ party_refusal settings (lent counters.now slots.now) party (add_checks p length hop 0) }
+    ensures known { IfOk result (λ r. party_number r.0 ≡ party) }
+    ensures low { IfOk result (λ r. r.1 ≡ hop) }
 {
-    let route = refuse_route(settings, counters, slots, party, p, length);
-    if route != 0 {
-        return route;
-    }
+    let whose = refuse_route(settings, counters, slots, party, p, length)?;
     if is_odd(p, length) {
-        return 11;
+        return Err(Refusal::Odd);
     }
-    refuse_high(hop)
+    Ok((whose, refuse_high(hop)?))
 }
 
 // 1, 2, 15 and 18, for memory of these many counters and words and for so many addresses and results,
@@ -96,18 +91,13 @@ pub fn refuse_list(
     party: u32,
     addresses: usize,
     results: usize,
-) -> u32
-    ensures { (m : Memory) → length m.counters ≡ counters → length m.slots ≡ slots → result ≡ list_refusal settings m party addresses results 0 }
+) -> Result<Party, Refusal>
+    ensures refusal { (m : Memory) → length m.counters ≡ counters → length m.slots ≡ slots → number_given result ≡ list_refusal settings m party addresses results 0 }
+    ensures known { IfOk result (λ whose. party_number whose ≡ party) }
 {
-    let refusal = refuse_party_sizes(settings, counters, slots, party);
-    if refusal != 0 {
-        return refusal;
+    let whose = refuse_party_sizes(settings, counters, slots, party)?;
+    if addresses.checked_mul(4) != Some(results) {
+        return Err(Refusal::BadRoom);
     }
-    if results % 4 != 0 {
-        return 18;
-    }
-    if results / 4 != addresses {
-        return 18;
-    }
-    0
+    Ok(whose)
 }

@@ -8,12 +8,15 @@ use native.Mathlib.Omega.{arith}
 use lib.Dec.{eqb}
 use borrow.Author.Tests.{eqb-true, eqb-false, ne_eqb}
 use Rattle.rules.specs.declared.Settings.{Settings}
+use Rattle.std.specs.Prelude.{Ok, Err}
+use Rattle.rules.specs.declared.Refusal.{Refusal}
+use Rattle.rules.specs.Numbers.{refusal_number}
 use Rattle.rules.specs.Table.{Memory, lent, refuse}
+use Rattle.rules.proofs.Numbers.{refusal_nonzero}
 use Rattle.rules.specs.Calls.{run}
 use Rattle.message_format.specs.Format.{well_formed, announces}
 use Rattle.message_format.specs.Reading.{hop_in, is_hop, update_refusal, message_calls}
 use Rattle.message_calls.specs.declared.Counts.{Counts}
-use Rattle.message_calls.specs.declared.Applied.TheVariants.{Good, Hopless, Fault}
 use Rattle.message_calls.specs.Walks.{none_counted, tallied, walked, update_done, applied_to}
 
 -- ---- Which UPDATE is refused with 12
@@ -31,6 +34,12 @@ twelve_due : (good hopless : Bool) → number good hopless ≢ 12 → good ≡ t
 twelve_due true hopless other = refl
 twelve_due false hopless other = absurd (other refl)
 
+-- there are two such numbers
+twelve_else : (good hopless : Bool) → number good hopless ≢ 0 → number good hopless ≢ 13 → number good hopless ≡ 12
+twelve_else true true some other = absurd (other refl)
+twelve_else true false some other = absurd (some refl)
+twelve_else false hopless some other = refl
+
 module _ (message hops : List ℕ) where
   pub ill_formed : update_refusal message hops ≡ 12 → well_formed message ≡ false
   unfolding update_refusal refuse
@@ -39,6 +48,10 @@ module _ (message hops : List ℕ) where
   pub formed : update_refusal message hops ≢ 12 → well_formed message ≡ true
   unfolding update_refusal refuse
   formed = twelve_due (well_formed message) (announces message && not (is_hop (hop_in message hops)))
+
+  pub other_than_hopless : update_refusal message hops ≢ 0 → update_refusal message hops ≢ 13 → update_refusal message hops ≡ 12
+  unfolding update_refusal refuse
+  other_than_hopless = twelve_else (well_formed message) (announces message && not (is_hop (hop_in message hops)))
 
 -- ---- What each answer tells
 
@@ -79,17 +92,12 @@ module _ (t : Settings) (m : Memory) (party : ℕ) (message hops : List ℕ) whe
       record { refused = is; same = ap (λ u. u.walk.memory) (sym (refused (λ none. some (sym is ∙ none))) ∙ done) }
 
   module _ {counters slots : List ℕ} where
-    pub good_told : {counts : Counts} → update_done t m party message hops ≡ applied_to (Good counts) counters slots → GoodTold t m party message hops counts (lent counters slots)
-    unfolding applied_to walked
+    pub good_told : {counts : Counts} → update_done t m party message hops ≡ applied_to (Ok counts) counters slots → GoodTold t m party message hops counts (lent counters slots)
+    unfolding walked
     good_told done =
         let passed = sym same_number ∙ ap (λ u. u.refusal) done in
         let walk = sym (accepted passed) ∙ done in
         record { passed = passed; counted = sym (ap (λ u. u.walk.counts) walk); last = ap (λ u. u.walk.memory) walk }
 
-    pub hopless_told : update_done t m party message hops ≡ applied_to Hopless counters slots → RefusedTold m message hops 13 (lent counters slots)
-    unfolding applied_to
-    hopless_told = told_refused (omega arith)
-
-    pub fault_told : update_done t m party message hops ≡ applied_to Fault counters slots → RefusedTold m message hops 12 (lent counters slots)
-    unfolding applied_to
-    fault_told = told_refused (omega arith)
+    pub refused_told : (e : Refusal) → update_done t m party message hops ≡ applied_to (Err e) counters slots → RefusedTold m message hops (refusal_number e) (lent counters slots)
+    refused_told e = told_refused (refusal_nonzero e)

@@ -1,2 +1,3 @@
--- What taking a chunk of a day does, past its first checks.
+-- What a record of a day does, how far its figures go, and the laws by which its call is proved.
 pub mod Days
+pub mod Laws

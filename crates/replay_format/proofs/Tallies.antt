@@ -5,11 +5,30 @@ use mathlib.Core.Path.{◌≡◌, refl, ap, ◌∙◌}
 use mathlib.Core.Bool.{Bool}
 use mathlib.Core.List.{List, [], ◌∷◌, map}
 use native.Mathlib.Omega.{arith}
-use lib.ListN.{get_or}
+use lib.ListN.{length, get_or}
 use Rattle.replay_format.specs.declared.Tally.{Tally}
 use Rattle.replay_format.specs.Replaying.{numbers, tally_more, tally_of, tally_words}
 
+-- ---- Lists by their places
+
+-- the values at the first so many places
+abbrev pub values : (n : ℕ) (value : ℕ → ℕ) → List ℕ
+values zero value = []
+values (suc n) value = value 0 ∷ values n (λ i. value (suc i))
+
+-- a list of so many elements is those, one after the other
+pub elements : (n : ℕ) (list : List ℕ) → length list ≡ n → values n (λ i. get_or list i 0) ≡ list
+elements zero [] h = refl
+elements zero (b ∷ list) h = absurd (omega arith)
+elements (suc n) [] h = absurd (omega arith)
+elements (suc n) (b ∷ list) h = ap (λ (rest : List ℕ). b ∷ rest) (elements n list (omega arith))
+
 -- ---- Words and tallies
+
+-- 23 words are those of the tally that they mean
+pub words_again : (words : List ℕ) → length words ≡ 23 → tally_words (tally_of words) ≡ words
+unfolding tally_of tally_words
+words_again = elements 23
 
 pub words_meant : (words : List ℕ) → tally_of (tally_words (tally_of words)) ≡ tally_of words
 unfolding tally_of tally_words

@@ -1,3 +1,2 @@
 -- The laws of a tally.
 pub mod Adding
-pub mod Figures

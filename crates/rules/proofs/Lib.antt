@@ -9,6 +9,7 @@ pub mod Lists
 pub mod Lowest
 pub mod Marks
 pub mod Meaning
+pub mod Numbers
 pub mod Members
 pub mod Placing
 pub mod Prefixes

@@ -8,10 +8,14 @@ use native.Mathlib.Omega.{arith}
 use lib.Dec.{ltb, eqb}
 use lib.ListN.{length}
 use borrow.Author.Tests.{ltb-false, le-ltb, eqb-true, eq-eqb, ne_eqb, not-false}
+use Rattle.std.specs.Prelude.{Result, Err}
 use Rattle.rules.specs.declared.Settings.{Settings}
+use Rattle.rules.specs.declared.Refusal.{Refusal}
 use Rattle.rules.specs.Table.{Memory, lent, in_range, counters_size, slots_size, prefix, stored, full, passes_15, runs_short, refuse, from_1, needs_slot, sized, loose, odd_prefix, memory_refusal, party_refusal, add_checks, route_refusal, add_refusal, withdraw_refusal, change_refusal, fourfold, list_refusal, unless_refused}
+use Rattle.rules.specs.Numbers.{refusal_number, number_given}
 use Rattle.rules.specs.Ready.{Ready, Counters, Slots}
 use Rattle.rules.proofs.Members.{both}
+use Rattle.rules.proofs.Numbers.{refusal_nonzero}
 use Rattle.rules.proofs.Prefixes.{loose_false}
 
 -- checks that pass on what comes after them, or give their own number whatever comes after
@@ -187,6 +191,11 @@ module _ {checks : ℕ → ℕ} (passing : Passing checks) {given : ℕ} (e : gi
 
   pub let_by : given ≡ 0 → (after : ℕ) → checks after ≡ after
   let_by good after = passing.accepts (sym e ∙ good) after
+
+-- what a call that was refused hands on, after the checks that refused it
+pub handed_on : {A : Type 0} {checks : ℕ → ℕ} → Passing checks → {r : Result A Refusal} {e : Refusal} → (d : Refusal) × (r ≡ Err d) × (d ≡ e)
+    → refusal_number e ≡ checks 0 → (after : ℕ) → number_given r ≡ checks after
+handed_on passing {e = e} (d, is, same) given after = rw (is, same) (stopped passing given (refusal_nonzero e) after)
 
 -- what an accepted add tells
 pub record AddFitted (t : Settings) (counters slots : List ℕ) (party p L hop : ℕ) : Type 0 where

@@ -6,7 +6,7 @@ use mathlib.Core.List.{List, [], ◌∷◌, map, ◌++◌}
 use lib.Dec.{eqb}
 use lib.ListN.{get_or, replicate, set}
 use Rattle.rules.specs.declared.Settings.{Settings}
-use Rattle.rules.specs.declared.Answer.{Answer}
+use Rattle.rules.specs.Table.{Answer}
 use Rattle.rules.specs.Tools.{within, all, any, count, those, lowest}
 use Rattle.rules.specs.Table.{list_in_range, in_range, wrap, prefix, steps, filter_bits, positions, bucket, Memory, filters_size, counters_size, filter_start, counter_place, counter_places, slots_size, slot_number, prefix_word, mark_word, default_word, first_mark, own, occupied, mark_of, hop_of, mark_at, prefix_at, default_mark, holds, free, held, vacant, is_some, stored, refuse, sized, loose, lies_in, odd_prefix, full, hits, passes_15, runs_short, from_1, needs_slot, memory_refusal, party_refusal, route_refusal, add_refusal, withdraw_refusal, change_refusal, Outcome, unless_refused, zeroed, step_each, with_slot, with_default, with_found, added, withdrawn, changed, clear, add, withdraw, change, claims, bits_where, vector_of, match_vector, down_from, bit_set, set_bits, search, route_answer, default_answer, place_answer, refused, answer_of, lookup, one_if, answer_words, list_words, Listed, listed, fourfold, list_refusal, lookup_list, whole_words, words, answer_number, vector_number, c_lookup, c_match_vector, bytes_of, c_list_refusal, c_lookup_list}
 

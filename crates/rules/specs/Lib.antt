@@ -4,3 +4,4 @@ pub mod Table
 pub mod Ready
 pub mod Calls
 pub mod Meaning
+pub mod Numbers

@@ -1,18 +1,17 @@
 -- What the slot search answers, and what each of its cases means to an update past its first checks: the number that is
 -- given back and the memory as it is left. To a lookup it means `place_answer`.
-use Rattle.std.specs.Prelude.{ℕ, ◌+◌, ◌-◌, not, List}
-use Rattle.std.proofs.Math.Option.{Option, some, none}
+use Rattle.std.specs.Prelude.{ℕ, ◌+◌, ◌-◌, not, List, Option, Some, None}
+use Rattle.std.proofs.Math.Option.{some, none}
+use Rattle.std.proofs.Math.Option as math
 use Rattle.rules.specs.declared.Settings.{Settings}
 use Rattle.rules.specs.declared.Place.{Place}
 use Rattle.rules.specs.declared.Place.TheVariants.{At, Absent}
-use Rattle.rules.specs.declared.Vacancy.{Vacancy}
-use Rattle.rules.specs.declared.Vacancy.TheVariants.{Free, Full}
 use Rattle.rules.specs.Table.{Memory, lent, Outcome, left, slot_number, counter_places, mark_of, default_mark, own, held, vacant, refuse, passes_15, runs_short, unless_refused, step_each, with_slot, with_default, found_or}
 
 -- free slot s of p's bucket at length L, by its number; where there is none the bucket is full
-abbrev pub vacancy_of : Settings → (p L : ℕ) → Option ℕ → Vacancy
-vacancy_of t p L (some s) = Free (slot_number t p L s)
-vacancy_of t p L none = Full
+abbrev pub vacancy_of : Settings → (p L : ℕ) → math.Option ℕ → Option ℕ
+vacancy_of t p L (some s) = Some (slot_number t p L s)
+vacancy_of t p L none = None
 
 -- what the search of p's own bucket at length L answers: the lowest slot that holds p for the party, or else the lowest free one
 unfoldable pub bucket_place : Settings → (slots : List ℕ) (party p L : ℕ) → Place
@@ -23,10 +22,10 @@ bucket_place t slots party p L =
 -- counters go up, or 9 is given back; a full bucket gives 8
 unfoldable pub place_added : Settings → Memory → (party p L hop : ℕ) → Place → Outcome
 place_added t m party p L hop (At M probes n) = left 0 m.counters (with_slot m.slots n p (mark_of party hop))
-place_added t m party p L hop (Absent (Free n)) =
+place_added t m party p L hop (Absent (Some n)) =
     unless_refused (refuse (passes_15 t m.counters p L) 9 0)
     (lent (step_each (λ n. n + 1) m.counters (counter_places t p L)) (with_slot m.slots n p (mark_of party hop))) m
-place_added t m party p L hop (Absent Full) = left 8 m.counters m.slots
+place_added t m party p L hop (Absent None) = left 8 m.counters m.slots
 
 -- to a withdrawal: a place gets two zeros, and the counters go down, or 10 is given back; absent gives 7
 unfoldable pub place_withdrawn : Settings → Memory → (p L : ℕ) → Place → Outcome

@@ -1,14 +1,11 @@
 -- The rules of the table, under the headings of docs/TABLE.md. Every definition computes, on any
 -- numbers and any memory, damaged memory too.
-use Rattle.std.specs.Prelude.{ℕ, zero, suc, ◌+◌, ◌-◌, ◌*◌, ◌/◌, ◌%◌, ◌^◌, Bool, true, false, cond, not, ◌&&◌, ◌||◌, List, [], ◌∷◌, ◌++◌, map, length, get_or, set, take, replicate, ltb, leb, eqb}
+use Rattle.std.specs.Prelude.{ℕ, zero, suc, ◌+◌, ◌-◌, ◌*◌, ◌/◌, ◌%◌, ◌^◌, Bool, true, false, cond, not, ◌&&◌, ◌||◌, List, [], ◌∷◌, ◌++◌, map, length, get_or, set, take, replicate, ltb, leb, eqb, None}
 use Rattle.std.proofs.Math.Option.{Option, some, none}
 use Rattle.rules.specs.Tools.{within, all, any, count, those, lowest}
 use Rattle.rules.specs.declared.Settings.{Settings}
 use Rattle.rules.specs.declared.Place.{Place}
 use Rattle.rules.specs.declared.Place.TheVariants.{At, Absent}
-use Rattle.rules.specs.declared.Vacancy.TheVariants.{Full}
-use Rattle.rules.specs.declared.Answer.{Answer}
-use Rattle.rules.specs.declared.Vector.{Vector}
 
 -- ---- Settings
 
@@ -339,6 +336,11 @@ bits_where test (suc n) = cond (test (suc n)) (2 ^ n) 0 + bits_where test n
 unfoldable pub vector_of : Settings → (counters : List ℕ) (address : ℕ) → ℕ
 vector_of t counters address = bits_where (λ L. claims t counters (prefix address L) L) 32
 
+-- what a match vector is given back: a refusal has its number and zero; 0 is no refusal
+pub record Vector : Type 0 where
+  pub refusal : ℕ
+  pub vector : ℕ
+
 -- the match vector, as it is given back
 unfoldable pub match_vector : Settings → Memory → (address : ℕ) → Vector
 match_vector t m address =
@@ -365,10 +367,18 @@ found_or t p L probes none after = after
 
 -- the buckets of the address at these lengths are searched in order for the party's prefix, each one probe more
 unfoldable pub search : Settings → (slots : List ℕ) (party address probes : ℕ) → List ℕ → Place
-search t slots party address probes [] = Absent Full
+search t slots party address probes [] = Absent None
 search t slots party address probes (L ∷ Ls) =
     let p = prefix address L in
     found_or t p L (probes + 1) (held t slots party p L) (search t slots party address (probes + 1) Ls)
+
+-- what a lookup is given back: a refusal has its number and zero elsewhere; 0 is no refusal
+pub record Answer : Type 0 where
+  pub refusal : ℕ
+  pub found : Bool
+  pub hop : ℕ
+  pub length : ℕ
+  pub probes : ℕ
 
 -- what a slot of this mark, which is the party's, answers, found at length L after so many probes
 unfoldable pub route_answer : (party mark L probes : ℕ) → Answer

@@ -2,60 +2,33 @@
 // party of a call that names one.
 #![tactic(auto)]
 
-ghost use Rattle.std.specs.Prelude.{◌≡◌, true, length};
-ghost use Rattle.rules.specs.Tools.{within};
+ghost use Rattle.std.specs.Prelude.{◌≡◌, true, length, IfOk};
+ghost use Rattle.std.specs.Bool.{then_some};
 ghost use Rattle.rules.specs.Table.{Memory, lent, list_in_range, in_range, counters_size, slots_size, memory_refusal, party_refusal};
+ghost use Rattle.rules.specs.Numbers.{party_number, number_given};
 
-use rules::Settings;
+use rules::{Party, Refusal, Settings};
 
-// Whether a number is low, high or between them.
-fn is_within(low: u32, high: u32, n: u32) -> bool
-    ensures { result ≡ within low high n }
-{
-    if n < low {
-        return false;
-    }
-    n <= high
-}
-
-// What the list of D asks: whether each is in its range and, if so, how many counters there are.
-#[derive(Clone, Copy)]
-struct Asked {
-    good: bool,
-    counters: u32,
-}
-
-// One pass over the list with no way out of it, which compiles to a few steps over many values at once. What it
-// counts is of no use where a D is out of its range.
-fn filters_asked(settings: Settings) -> Asked
-    ensures good_value { result.good ≡ list_in_range settings.d }
-    ensures counters_value { list_in_range settings.d ≡ true → result.counters ≡ counters_size settings }
+// How many counters the filters ask, if each D of the list is in its range. One pass over the list with no way out of
+// it, which compiles to a few steps over many values at once; what it counts is of no use where a D is out of its range.
+fn filters_asked(settings: Settings) -> Option<usize>
+    ensures { result ≡ then_some (list_in_range settings.d) (counters_size settings) }
 {
     let mut good = true;
     let mut counters: u32 = 0;
-    for i in 0..32 {
-        let d = settings.d[i];
-        good = good & (4 <= d) & (d <= 11);
-        counters += 1 << ((d % 16) as u32);
+    for d in &settings.d {
+        good = good & (4..=11).contains(d);
+        counters += 1 << (d % 16);
     }
-    Asked { good, counters }
+    good.then_some(counters as usize)
 }
 
-// Whether K, E and S are each in its range and the list is good.
-fn is_in_range(settings: Settings, good: bool) -> bool
-    requires { good ≡ list_in_range settings.d }
+// Whether K, E and S are each in its range.
+fn is_in_range(settings: Settings) -> bool
+    requires { list_in_range settings.d ≡ true }
     ensures { result ≡ in_range settings }
 {
-    if !is_within(1, 8, settings.k) {
-        return false;
-    }
-    if !good {
-        return false;
-    }
-    if !is_within(0, 8, settings.e) {
-        return false;
-    }
-    is_within(1, 8, settings.s)
+    (1..=8).contains(&settings.k) && settings.e <= 8 && (1..=8).contains(&settings.s)
 }
 
 // How many words of slots the settings ask.
@@ -63,50 +36,53 @@ fn slots_asked(settings: Settings) -> usize
     requires { in_range settings ≡ true }
     ensures { result ≡ slots_size settings }
 {
-    (64 << (settings.e as usize)) * (settings.s as usize) + 2
+    (64 << settings.e) * (settings.s as usize) + 2
 }
 
-// 1 or 2 for memory of these many counters and words, or 0 where it is what the settings ask.
-pub fn refuse_sizes(settings: Settings, counters: usize, slots: usize) -> u32
-    ensures { (m : Memory) → length m.counters ≡ counters → length m.slots ≡ slots → result ≡ memory_refusal settings m 0 }
+// 1 or 2 for memory of these many counters and words, where it is not what the settings ask.
+pub fn refuse_sizes(settings: Settings, counters: usize, slots: usize) -> Result<(), Refusal>
+    ensures { (m : Memory) → length m.counters ≡ counters → length m.slots ≡ slots → number_given result ≡ memory_refusal settings m 0 }
 {
-    let asked = filters_asked(settings);
-    if !is_in_range(settings, asked.good) {
-        return 1;
+    let asked = filters_asked(settings).ok_or(Refusal::BadSettings)?;
+    if !is_in_range(settings) {
+        return Err(Refusal::BadSettings);
     }
-    if counters != asked.counters as usize {
-        return 2;
+    if counters != asked || slots != slots_asked(settings) {
+        return Err(Refusal::BadSizes);
     }
-    if slots != slots_asked(settings) {
-        return 2;
-    }
-    0
+    Ok(())
 }
 
-// 1 or 2, or 0 where the settings and the memory fit.
-pub fn refuse_memory(settings: Settings, counters: &[u8], slots: &[u32]) -> u32
-    ensures { result ≡ memory_refusal settings (lent counters.now slots.now) 0 }
+// 1 or 2, where the settings and the memory do not fit.
+pub fn refuse_memory(settings: Settings, counters: &[u8], slots: &[u32]) -> Result<(), Refusal>
+    ensures { number_given result ≡ memory_refusal settings (lent counters.now slots.now) 0 }
 {
     refuse_sizes(settings, counters.len(), slots.len())
 }
 
-// 1, 2 or 15 for a call that names its party, by how many counters and words its memory has; or 0.
-pub fn refuse_party_sizes(settings: Settings, counters: usize, slots: usize, party: u32) -> u32
-    ensures { (m : Memory) → length m.counters ≡ counters → length m.slots ≡ slots → result ≡ party_refusal settings m party 0 }
+// 1, 2 or 15 for a call that names its party, by how many counters and words its memory has; or the party.
+pub fn refuse_party_sizes(
+    settings: Settings,
+    counters: usize,
+    slots: usize,
+    party: u32,
+) -> Result<Party, Refusal>
+    ensures refusal { (m : Memory) → length m.counters ≡ counters → length m.slots ≡ slots → number_given result ≡ party_refusal settings m party 0 }
+    ensures known { IfOk result (λ whose. party_number whose ≡ party) }
 {
-    let refusal = refuse_sizes(settings, counters, slots);
-    if refusal != 0 {
-        return refusal;
-    }
-    if 1 < party {
-        return 15;
-    }
-    0
+    refuse_sizes(settings, counters, slots)?;
+    Party::try_from(party)
 }
 
-// 1, 2 or 15, or 0 where the settings and the memory fit and the party is one of the two.
-pub fn refuse_party(settings: Settings, counters: &[u8], slots: &[u32], party: u32) -> u32
-    ensures { result ≡ party_refusal settings (lent counters.now slots.now) party 0 }
+// 1, 2 or 15, or the party where the settings and the memory fit and it is one of the two.
+pub fn refuse_party(
+    settings: Settings,
+    counters: &[u8],
+    slots: &[u32],
+    party: u32,
+) -> Result<Party, Refusal>
+    ensures refusal { number_given result ≡ party_refusal settings (lent counters.now slots.now) party 0 }
+    ensures known { IfOk result (λ whose. party_number whose ≡ party) }
 {
     refuse_party_sizes(settings, counters.len(), slots.len(), party)
 }

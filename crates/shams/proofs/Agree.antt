@@ -7,7 +7,7 @@ use mathlib.Core.List.{List, [], ◌∷◌, ◌++◌}
 use lib.Dec.{eqb}
 use lib.ListN.{replicate}
 use Rattle.rules.specs.declared.Settings.{Settings}
-use Rattle.rules.specs.declared.Answer.{Answer}
+use Rattle.rules.specs.Table.{Answer}
 use Rattle.rules.proofs.Worked.{ip, T}
 use Rattle.rules.specs.Calls.{Call, Add, Withdraw}
 use Rattle.promises.specs.History.{routes_of, stored_by}

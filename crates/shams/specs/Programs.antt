@@ -2,8 +2,7 @@
 -- breaks one of these is shut out.
 use Rattle.std.specs.Prelude.{ℕ, ◌^◌, ◌≤◌, ◌<◌, ◌≡◌, true, List}
 use Rattle.rules.specs.declared.Settings.{Settings}
-use Rattle.rules.specs.declared.Answer.{Answer}
-use Rattle.rules.specs.Table.{in_range, Memory, Outcome, sized, clear, add, withdraw, change, refused, lookup}
+use Rattle.rules.specs.Table.{Answer, in_range, Memory, Outcome, sized, clear, add, withdraw, change, refused, lookup}
 use Rattle.rules.specs.Calls.{Call, Clear, Add, Withdraw, Change, word_sized, all_word_sized, act, Run, each}
 use Rattle.promises.specs.History.{Route, routes_of, stored_by}
 use Rattle.promises.specs.Demands.{Longest, NoMatch, Finds, SaysNone, number_given, probes_down_to}

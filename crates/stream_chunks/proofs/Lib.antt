@@ -1,3 +1,3 @@
--- The laws of a chunk while its records are done (Going), and the order of its refusals (Sizes).
+-- The laws of a chunk while its records are done, and of words none of which is high.
+pub mod Counts
 pub mod Going
-pub mod Sizes

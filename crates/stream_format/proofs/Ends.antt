@@ -1,6 +1,6 @@
 -- What the end of a stream gives back goes by the stage that the words mean, and it ends the stream for good.
 use Prim.Native.Nat.{ℕ, ◌+◌, ◌-◌, ◌^◌, ◌<◌}
-use mathlib.Core.Path.{◌≡◌, refl}
+use mathlib.Core.Path.{◌≡◌, refl, sym, ◌∙◌}
 use mathlib.Core.Bool.{Bool, true, false, cond, and-true, and-false}
 use mathlib.Core.List.{List}
 use native.Mathlib.Nat.{mod-eq_of_lt}
@@ -37,6 +37,20 @@ begun read = cases (ltb read 12)
     (λ few. rw (few, le-leb read 11 (omega (arith, ltb-true))) (and-true (leb 1 read)))
     (λ many. rw (many, lt-leb read 11 (omega (arith, ltb-false))) (and-false (leb 1 read)))
 
+-- only one stage has ended by a number
+module _ {number : ℕ} where
+  same_end : {other : ℕ} → Ended other ≡ Ended number → other ≡ number
+  same_end is = cc
+
+  not_header : {read : ℕ} → Header read ≡ Ended number → ⊥
+  not_header is = cc
+
+  not_body : {read left : ℕ} → Body read left ≡ Ended number → ⊥
+  not_body is = cc
+
+  not_over : {left : ℕ} → Over left ≡ Ended number → ⊥
+  not_over is = cc
+
 module _ (kind : Kind) (words room : List ℕ) where
   -- The number that the end gives goes by the stage, whatever the room holds and whichever kind is read.
   pub end_by_stage : (end_stream words).number ≡ end_at (stage_of kind words room)
@@ -51,10 +65,18 @@ module _ (kind : Kind) (words room : List ℕ) where
   end_inside on = cases (eqb (left_word words) 0) (λ whole. rw (on, whole))
       (λ more. cases (is_body kind words room) (λ body. rw (on, more, body)) (λ other. rw (on, more, other)))
 
-  -- A stream that has ended is in the stage that says so.
+  -- A stream that has ended is in the stage that says so, and no other is.
   pub ended_stage : is_ended words ≡ true → stage_of kind words room ≡ Ended (ended_number words)
   unfolding stage_of
   ended_stage over = rw over
+
+  going_stage : is_ended words ≡ false → {number : ℕ} → stage_of kind words room ≡ Ended number → ⊥
+  unfolding stage_of
+  going_stage on is = cases (eqb (left_word words) 0) (λ whole. not_header (rw (on, whole) at is))
+      (λ more. cases (is_body kind words room) (λ body. not_body (rw (on, more, body) at is)) (λ other. not_over (rw (on, more, other) at is)))
+
+  pub ended_told : {number : ℕ} → stage_of kind words room ≡ Ended number → (is_ended words ≡ true) × (ended_number words ≡ number)
+  ended_told is = cases (is_ended words) (λ over. (over, same_end (sym (ended_stage over) ∙ is))) (λ on. absurd (going_stage on is))
 
 -- ---- For good
 

@@ -6,16 +6,19 @@ use mathlib.Core.Bool.{Bool, true, false, ◌||◌, false≢true}
 use mathlib.Core.List.{List}
 use mathlib.Core.Logic.{◌≢◌}
 use lib.Dec.{ltb}
-use lib.ListN.{length, get_or}
+use lib.ListN.{length}
+use borrow.Table.Steps.{cases}
 use borrow.Author.Tests.{ltb-false, ne_eqb}
 use Rattle.rules.specs.declared.Settings.{Settings}
 use Rattle.rules.specs.Table.{lent, party_refusal}
 use Rattle.rules.specs.Calls.{run}
 use Rattle.rules.proofs.Refusals.{Fitted, passed, party_passed}
 use Rattle.stream_format.specs.declared.Stage.{Stage}
+use Rattle.stream_format.specs.declared.Stage.TheVariants.{Ended}
 use Rattle.stream_format.specs.Streams.{stream, chunk_taken}
-use Rattle.stream_format.specs.Kept.{ended_word, is_ended, stage_of, words_of}
+use Rattle.stream_format.specs.Kept.{is_ended, stage_of, words_of}
 use Rattle.stream_format.specs.Chunks.{Reading, Work, record_done, doing, chunk_refusal, Chunked, chunked, stage_number, lent_back, taken_up, take_chunk}
+use Rattle.stream_format.proofs.Ends.{ended_stage, ended_told}
 
 -- ---- One record
 
@@ -68,23 +71,30 @@ module _ {C : Type 0} (t : Settings) (r : Reading C) (counters slots counts word
   abbrev why : ℕ
   why = chunk_refusal t (lent counters slots) r.party (r.counts_high (r.counts_of counts)) chunk
 
-  -- After the end it is given the number that ended the stream.
-  pub after_end : (get_or words 0 0 ≡ 0 → ⊥) → {number : ℕ} → number ≡ stage_number (stage_of r.kind words room)
-      → its ≡ chunked number counts words room counters slots
-  unfolding take_chunk is_ended ended_word stage_of stage_number
-  after_end ended is = rw (is, ne_eqb _ _ ended)
+  -- the stage that the words mean
+  abbrev begun : Stage
+  begun = stage_of r.kind words room
 
-  module _ (on : get_or words 0 0 ≡ 0) where
+  -- where that is of no end, the words say that the stream goes on
+  goes_on : ((number : ℕ) → begun ≡ Ended number → ⊥) → is_ended words ≡ false
+  goes_on other = cases (is_ended words) (λ over. absurd (other _ (ended_stage r.kind words room over))) (λ on. on)
+
+  -- After the end it is given the number that ended the stream.
+  pub after_end : {number : ℕ} → begun ≡ Ended number → its ≡ chunked number counts words room counters slots
+  unfolding take_chunk
+  after_end is = let told = ended_told r.kind words room is in rw (told.0, told.1)
+
+  module _ (other : (number : ℕ) → begun ≡ Ended number → ⊥) where
     -- It is refused,
     pub refused : {refusal : ℕ} → refusal ≡ why → (refusal ≡ 0 → ⊥) → its ≡ chunked refusal counts words room counters slots
-    unfolding take_chunk is_ended ended_word
-    refused is bad = rw (on, ← is, ne_eqb _ _ bad)
+    unfolding take_chunk
+    refused is bad = rw (goes_on other, ← is, ne_eqb _ _ bad)
 
     -- or its records are all that it does.
     pub taken : why ≡ 0 → {stage : Stage} {room' : List ℕ} {counted : C} {counters' slots' : List ℕ}
-        → chunk_taken r.kind (doing t r) (stream (stage_of r.kind words room) room (record { counts = r.counts_of counts; memory = lent counters slots })) chunk
+        → chunk_taken r.kind (doing t r) (stream begun room (record { counts = r.counts_of counts; memory = lent counters slots })) chunk
         ≡ stream stage room' (record { counts = counted; memory = lent counters' slots' })
         → {number : ℕ} {counts' words' : List ℕ} → number ≡ stage_number stage → counts' ≡ r.counts_words counted → words' ≡ words_of stage
         → its ≡ chunked number counts' words' room' counters' slots'
-    unfolding take_chunk is_ended ended_word lent_back taken_up
-    taken good done number_is counts_is words_is = rw (on, good, done, number_is, counts_is, words_is)
+    unfolding take_chunk lent_back taken_up
+    taken good done number_is counts_is words_is = rw (goes_on other, good, done, number_is, counts_is, words_is)

@@ -1,9 +1,7 @@
 -- The contracts leave one result: two that meet one on the same arguments give back the same and leave the same words, or
 -- the same bytes in the room.
 use mathlib.Core.Path.{◌≡◌, sym, ap, ◌∙◌}
-use native.Mathlib.Omega.{arith}
 use contract.Lifetimes.{Lfts}
-use lib.ListN.{length, length-drop}
 use Rattle.stream_records.proofs.stage_of.Reads as stage_of
 use Rattle.stream_records.proofs.keep_stage.Reads as keep_stage
 use Rattle.stream_records.proofs.end_stream.Reads as end_stream
@@ -23,10 +21,7 @@ end_stream_determined κs a r q s e one other =
     (ap (λ u. u.number) same, ap (λ u. u.words) same)
 
 pub next_record_determined : (κs : Lfts 2) (a : _) (r q : _) (s e : _) → next_record.Post κs a r s → next_record.Post κs a q e
-    → (r ≡ q) × (s.1.1.0.now ≡ e.1.1.0.now)
+    → (r.stage ≡ q.stage) × ((r.rest.now ≡ q.rest.now) × ((r.event ≡ q.event) × (s.1.1.0.now ≡ e.1.1.0.now)))
 next_record_determined κs a r q s e one other =
     let same = sym one.cut ∙ other.cut in
-    let chunk = a.1.1.1.0.now in
-    let rest = ap (λ u. length u.rest) same in
-    let at : r.at ≡ q.at = omega (arith, length-drop r.at chunk, length-drop q.at chunk, one.inside, other.inside) in
-    ((λ i. record { stage = (same i).after.stage; at = at i; event = (same i).after.event }), ap (λ u. u.after.room) same)
+    (ap (λ u. u.after.stage) same, (ap (λ u. u.rest) same, (ap (λ u. u.after.event) same, ap (λ u. u.after.room) same)))

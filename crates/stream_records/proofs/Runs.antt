@@ -1,13 +1,13 @@
 -- A run is what is left of a header or of a body. What its bytes do is one induction over them, for headers and bodies alike;
 -- what is given back of a chunk follows from whether the chunk ends within the run or goes past it.
-use Prim.Native.Nat.{ℕ, zero, suc, ◌+◌, ◌-◌, ◌^◌, ◌≤◌, ◌<◌}
+use Prim.Native.Nat.{ℕ, zero, suc, ◌+◌, ◌-◌, ◌≤◌, ◌<◌}
 use mathlib.Core.Path.{◌≡◌, refl, sym, ap, subst, ◌∙◌}
 use mathlib.Core.Bool.{true, false≢true}
 use mathlib.Core.List.{List, [], ◌∷◌, ◌++◌, append-nil}
 use native.Mathlib.Nat.{add-zero, add_assoc, sub-zero, sub-add-eq}
 use native.Mathlib.Omega.{arith}
-use lib.ListN.{length, take, drop, get_or, set, length-append, length-drop}
-use lib.Seq.{sets, append_snoc, drop-drop, drop-length}
+use lib.ListN.{length, take, drop, set, length-append, length-drop}
+use lib.Seq.{sets, append_snoc}
 use borrow.Author.Tests.{lt-ltb, le-ltb}
 use Rattle.stream_format.specs.declared.Kind.{Kind}
 use Rattle.stream_format.specs.declared.Stage.{Stage}
@@ -16,7 +16,7 @@ use Rattle.stream_format.specs.declared.Event.{Event}
 use Rattle.stream_format.specs.declared.Event.TheVariants.{Nothing, Record, Stepped}
 use Rattle.stream_format.specs.Streams.{Framed, framed, next_byte, header_read}
 use Rattle.stream_records.specs.declared.Next.{Next}
-use Rattle.stream_records.specs.Runs.{completes, up_to_record, Sound, SoundHeader, SoundBody, SoundOver, SoundEnded, Goes}
+use Rattle.stream_records.specs.Runs.{completes, up_to_record, Sound, Stands, Goes}
 
 -- ---- Bytes at a place
 
@@ -24,18 +24,6 @@ use Rattle.stream_records.specs.Runs.{completes, up_to_record, Sound, SoundHeade
 pub sets_more : (room : List ℕ) (at : ℕ) (bytes : List ℕ) (b : ℕ) → sets room at (bytes ++ b ∷ []) ≡ set (sets room at bytes) (at + length bytes) b
 sets_more room at [] b = rw add-zero
 sets_more room at (a ∷ bytes) b = sets_more (set room at a) (suc at) bytes b ∙ ap (λ n. set (sets (set room at a) (suc at) bytes) n b) (omega arith)
-
--- the values at the first so many places
-abbrev pub values : (n : ℕ) (value : ℕ → ℕ) → List ℕ
-values zero value = []
-values (suc n) value = value 0 ∷ values n (λ i. value (suc i))
-
--- a list of so many elements is those, one after the other
-pub elements : (n : ℕ) (bytes : List ℕ) → length bytes ≡ n → values n (λ i. get_or bytes i 0) ≡ bytes
-elements zero [] h = refl
-elements zero (b ∷ bytes) h = absurd (omega arith)
-elements (suc n) [] h = absurd (omega arith)
-elements (suc n) (b ∷ bytes) h = ap (λ (rest : List ℕ). b ∷ rest) (elements n bytes (omega arith))
 
 -- ---- Runs
 
@@ -121,70 +109,49 @@ HasRoom Nothing = Unit
 HasRoom (Record size) = size ≤ 65548
 HasRoom Stepped = Unit
 
-module _ {kind : Kind} {from : Framed} {chunk : List ℕ} {at : ℕ} where
+module _ {kind : Kind} {from : Framed} {bytes : List ℕ} {next : Next} {room : List ℕ} where
   -- every byte is taken, and no record is complete
-  pub goes_all : {stage : Stage} {room : List ℕ} → at ≤ length chunk → Sound stage
-      → up_to_record kind from (drop at chunk) ≡ record { after = framed stage room Nothing; rest = [] }
-      → Goes kind from chunk at (record { stage = stage; at = length chunk; event = Nothing }) room
+  pub goes_all : {stage : Stage} → Stands next stage [] Nothing → Sound stage
+      → up_to_record kind from bytes ≡ record { after = framed stage room Nothing; rest = [] } → Goes kind from bytes next room
   unfolding completes
-  goes_all h s e = record {
-    cut = rw drop-length e;
-    sound = s;
-    inside = omega arith;
-    later = h;
-    moved = λ n y. absurd (false≢true y);
-    in_room = λ e. subst HasRoom e tt;
+  goes_all {stage} is s e = record {
+    cut = rw (is.stage_is, is.rest_is, is.event_is) e;
+    sound = subst Sound (sym is.stage_is) s;
+    no_more = rw is.rest_is (omega arith);
+    fewer = λ n y. absurd (false≢true (rw is.event_is at y));
+    in_room = λ e. subst HasRoom (sym is.event_is ∙ e) tt;
   }
 
-  -- some are taken, and then it goes on as from another place
-  goes_on : {between : Framed} {end : ℕ} {next : Next} {room : List ℕ} → at < end
-      → up_to_record kind from (drop at chunk) ≡ up_to_record kind between (drop end chunk)
-      → Goes kind between chunk end next room → Goes kind from chunk at next room
+  -- some are taken, and then it goes on as from there
+  goes_on : {between : Framed} {more : List ℕ} → length more < length bytes
+      → up_to_record kind from bytes ≡ up_to_record kind between more → Goes kind between more next room → Goes kind from bytes next room
   goes_on l e g = record {
     cut = e ∙ g.cut;
     sound = g.sound;
-    inside = g.inside;
-    later = omega (arith, g.later);
-    moved = λ n y. omega (arith, g.later);
+    no_more = omega (arith, g.no_more);
+    fewer = λ n y. omega (arith, g.no_more);
     in_room = g.in_room;
   }
 
-  module _ {size : ℕ} {stage : List ℕ → Stage} {room : List ℕ → List ℕ} {whole : List ℕ → Framed} (run : Run kind from size stage room whole) where
-    -- the chunk ends within a run
-    pub goes_within : at ≤ length chunk → length chunk - at < size → Sound (stage (drop at chunk))
-        → Goes kind from chunk at (record { stage = stage (drop at chunk); at = length chunk; event = Nothing }) (room (drop at chunk))
-    goes_within h few s =
-        goes_all h s (rw (← run.begins) (part kind run [] (drop at chunk) (omega (arith, length-drop at chunk))))
+module _ {kind : Kind} {from : Framed} {bytes : List ℕ} {size : ℕ} {stage : List ℕ → Stage} {room : List ℕ → List ℕ} {whole : List ℕ → Framed} (run : Run kind from size stage room whole) where
+  -- the bytes end within a run
+  pub goes_within : {next : Next} → length bytes < size → Stands next (stage bytes) [] Nothing → Sound (stage bytes)
+      → Goes kind from bytes next (room bytes)
+  goes_within few is s = goes_all is s (rw (← run.begins) (part kind run [] bytes (omega arith)))
 
-    -- it goes past a run
-    pub goes_past : {next : Next} {room' : List ℕ} → 1 ≤ size → at + size ≤ length chunk
-        → Goes kind (whole (take size (drop at chunk))) chunk (at + size) next room' → Goes kind from chunk at next room'
-    goes_past some h g =
-        goes_on (omega arith) (rw (← run.begins, ← drop-drop size at chunk) (all kind run [] (drop at chunk) size some (omega arith) (omega (arith, length-drop at chunk)))) g
+  -- they go past it
+  pub goes_past : {next : Next} {room' : List ℕ} → 1 ≤ size → size ≤ length bytes
+      → Goes kind (whole (take size bytes)) (drop size bytes) next room' → Goes kind from bytes next room'
+  goes_past some h g =
+      goes_on (omega (arith, length-drop size bytes)) (rw (← run.begins) (all kind run [] bytes size some (omega arith) h)) g
 
 -- a record is complete already
-pub goes_none : {kind : Kind} {stage : Stage} {room chunk : List ℕ} {event : Event} {at : ℕ} → at ≤ length chunk → Sound stage
-    → completes event ≡ true → HasRoom event
-    → Goes kind (framed stage room event) chunk at (record { stage = stage; at = at; event = event }) room
-goes_none h s y i = record {
-  cut = stops _ _ _ y;
-  sound = s;
-  inside = h;
-  later = omega arith;
-  moved = λ n d. absurd (false≢true (sym n ∙ y));
-  in_room = λ e. subst HasRoom e i;
+pub goes_none : {kind : Kind} {room bytes : List ℕ} {event : Event} {next : Next} → Stands next (Header 0) bytes event
+    → completes event ≡ true → HasRoom event → Goes kind (framed (Header 0) room event) bytes next room
+goes_none is y i = record {
+  cut = rw (is.stage_is, is.rest_is, is.event_is) (stops _ _ _ y);
+  sound = rw is.stage_is (omega arith);
+  no_more = rw is.rest_is (omega arith);
+  fewer = λ n d. absurd (false≢true (sym n ∙ y));
+  in_room = λ e. subst HasRoom (sym is.event_is ∙ e) i;
 }
-
--- ---- What a sound stage says
-
-pub sound_header : {read : ℕ} → Sound (Header read) → read < 12
-sound_header (SoundHeader h) = h
-
-pub sound_body : {read left : ℕ} → Sound (Body read left) → (12 ≤ read) × ((1 ≤ left) × (read + left ≤ 65548))
-sound_body (SoundBody r l b) = (r, (l, b))
-
-pub sound_over : {left : ℕ} → Sound (Over left) → (1 ≤ left) × (left < 2 ^ 32)
-sound_over (SoundOver l b) = (l, b)
-
-pub sound_ended : {number : ℕ} → Sound (Ended number) → number < 2 ^ 16
-sound_ended (SoundEnded b) = b

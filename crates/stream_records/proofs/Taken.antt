@@ -4,7 +4,6 @@ use Prim.Native.Nat.{ℕ}
 use mathlib.Core.Path.{◌≡◌, refl, sym, ap, ◌∙◌}
 use mathlib.Core.Bool.{false, false≢true}
 use mathlib.Core.List.{List, [], ◌∷◌}
-use lib.ListN.{drop}
 use Rattle.rules.specs.Tools.{fed}
 use Rattle.stream_format.specs.declared.Kind.{Kind}
 use Rattle.stream_format.specs.declared.Stage.{Stage}
@@ -42,16 +41,16 @@ module _ {X : Type 0} (kind : Kind) (doing : Doing X) (x : X) where
   taken_after stage room (Record size) (b ∷ bytes) = refl
   taken_after stage room Stepped (b ∷ bytes) = refl
 
-  module _ {stage : Stage} {room chunk : List ℕ} {at : ℕ} {next : Next} {room' : List ℕ} (goes : GoesFrom kind stage room chunk at next room') where
-    -- What a chunk does from a place on: what is complete at the next place is done, and what the chunk does from there follows.
-    pub goes_taken : chunk_taken kind doing (stream stage room x) (drop at chunk)
-        ≡ chunk_taken kind doing (completed doing x next.stage room' next.event) (drop next.at chunk)
+  module _ {stage : Stage} {room bytes : List ℕ} {next : Next} {room' : List ℕ} (goes : GoesFrom kind stage room bytes next room') where
+    -- What bytes do: what is complete after those that are taken is done, and what the rest does follows.
+    pub goes_taken : chunk_taken kind doing (stream stage room x) bytes
+        ≡ chunk_taken kind doing (completed doing x next.stage room' next.event) next.rest.now
     unfolding done_then completed
-    goes_taken = taken_after stage room Nothing (drop at chunk) ∙ ap done_then goes.cut
+    goes_taken = taken_after stage room Nothing bytes ∙ ap done_then goes.cut
 
     -- the chunk ends inside a record
-    pub goes_no_further : next.event ≡ Nothing → chunk_taken kind doing (stream stage room x) (drop at chunk) ≡ stream next.stage room' x
+    pub goes_no_further : next.event ≡ Nothing → chunk_taken kind doing (stream stage room x) bytes ≡ stream next.stage room' x
     unfolding chunk_taken fed completed completes
     goes_no_further nothing =
-        let rest : drop next.at chunk ≡ [] = rw goes.cut at (all_taken kind stage room Nothing (drop at chunk) (rw (goes.cut, nothing))) in
+        let rest : next.rest.now ≡ [] = rw goes.cut at (all_taken kind stage room Nothing bytes (rw (goes.cut, nothing))) in
         goes_taken ∙ rw (rest, nothing)

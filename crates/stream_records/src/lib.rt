@@ -7,86 +7,90 @@ ghost use Rattle.std.specs.Prelude.{◌+◌, ◌^◌, ◌≤◌, ◌<◌, ◌≡
 ghost use Rattle.std.proofs.lemmas.List.Edits.{sets};
 ghost use Rattle.rules.specs.Tools.{within};
 ghost use Rattle.stream_format.specs.declared.Stage.TheVariants.{Header};
+ghost use Rattle.stream_format.specs.declared.Event.TheVariants.{Nothing};
 ghost use Rattle.stream_format.specs.Streams.{is_kind, header_read};
 ghost use Rattle.stream_format.specs.Kept.{is_body, stage_of, words_of, end_stream, ended_as};
-ghost use Rattle.stream_records.specs.Runs.{Sound, Goes, GoesFrom, BodyGoes, OverGoes};
+ghost use Rattle.stream_records.specs.Runs.{Sound, Stands, Goes, GoesFrom, BodyGoes, OverGoes};
 
 use message_cursors::{four_bytes, two_bytes};
+use rules::Refusal;
 use stream_format::{Event, Kind, Stage};
 
-// Where a stream stands after some bytes of a chunk, where the next byte is, and what the last one completed.
+// Where a stream stands after some bytes, those that are not taken yet, and what the last one that is completed.
 #[derive(Clone, Copy)]
-pub struct Next {
+pub struct Next<'a> {
     pub stage: Stage,
-    pub at: usize,
+    pub rest: &'a [u8],
     pub event: Event,
 }
 
+impl<'a> Next<'a> {
+    // All bytes are taken, and no record is complete.
+    fn all_taken(stage: Stage) -> Self
+        ensures { Stands result stage [] Nothing }
+    {
+        Next {
+            stage,
+            rest: &[],
+            event: Event::Nothing,
+        }
+    }
+
+    // A record is complete, and the next header begins.
+    fn complete(event: Event, rest: &'a [u8]) -> Self
+        ensures { Stands result (Header 0) rest.now event }
+    {
+        Next {
+            stage: Stage::Header { read: 0 },
+            rest,
+            event,
+        }
+    }
+}
+
 // Whether the type is the one that is read, and the subtype one of the two.
+#[tactic(auto, unfolding(stream_format::specs::Streams::is_kind))]
 fn is_kind(kind: Kind, room: &[u8; 65548]) -> bool
     ensures { result ≡ is_kind kind room.now }
 {
-    if two_bytes(room, 4) != kind.number {
-        return false;
-    }
     let subtype = two_bytes(room, 6);
-    if subtype == kind.subtype {
-        return true;
-    }
-    subtype == kind.also
+    two_bytes(room, 4) == kind.number && (subtype == kind.subtype || subtype == kind.also)
 }
 
 // Whether the words mean a record that is read, by how much of it stands in the room and how much is to come.
+#[tactic(auto, unfolding(stream_format::specs::Kept::is_body, stream_format::specs::Kept::read_word, stream_format::specs::Kept::left_word))]
 fn is_body(kind: Kind, read: u32, left: u32, room: &[u8; 65548]) -> bool
     ensures { result ≡ is_body kind (0 ∷ read ∷ left ∷ []) room.now }
 {
-    if read < 12 {
-        return false;
-    }
-    if read as u64 + left as u64 > 65548 {
-        return false;
-    }
-    is_kind(kind, room)
-}
-
-// The stage that three words mean.
-fn stage_from(kind: Kind, ended: u32, read: u32, left: u32, room: &[u8; 65548]) -> Stage
-    ensures value { result ≡ stage_of kind (ended ∷ read ∷ left ∷ []) room.now }
-    ensures sound { Sound result }
-{
-    if ended != 0 {
-        return Stage::Ended {
-            number: (ended - 1) % 65536,
-        };
-    }
-    if left == 0 {
-        if read < 12 {
-            return Stage::Header {
-                read: read as usize,
-            };
-        }
-        return Stage::Header { read: 0 };
-    }
-    if is_body(kind, read, left, room) {
-        return Stage::Body {
-            read: read as usize,
-            left: left as usize,
-        };
-    }
-    Stage::Over {
-        left: left as usize,
-    }
+    read >= 12 && read as u64 + left as u64 <= 65548 && is_kind(kind, room)
 }
 
 // The stage that the words mean: any three numbers of 32 bits mean one from which bytes can be taken.
+#[tactic(auto, unfolding(stream_format::specs::Kept::stage_of, stream_format::specs::Kept::is_ended, stream_format::specs::Kept::ended_word, stream_format::specs::Kept::read_word, stream_format::specs::Kept::left_word, stream_format::specs::Kept::ended_number))]
 pub fn stage_of(kind: Kind, words: &[u32; 3], room: &[u8; 65548]) -> Stage
     ensures value { result ≡ stage_of kind words.now room.now }
     ensures sound { Sound result }
 {
-    stage_from(kind, words[0], words[1], words[2], room)
+    match *words {
+        [0, read @ 0..12, 0] => Stage::Header {
+            read: read as usize,
+        },
+        [0, _, 0] => Stage::Header { read: 0 },
+        [0, read, left] if is_body(kind, read, left, room) => Stage::Body {
+            read: read as usize,
+            left: left as usize,
+        },
+        [0, _, left] => Stage::Over {
+            left: left as usize,
+        },
+        [ended, _, _] => Stage::Ended {
+            number: (ended - 1) % 65536,
+        },
+    }
 }
 
 // Writes a stage into the words.
+#[tactic(auto, unfolding(stream_format::specs::Kept::words_of))]
 pub fn keep_stage(stage: Stage, words: &mut [u32; 3])
     requires { Sound stage }
     ensures { words.new ≡ words_of stage }
@@ -100,219 +104,143 @@ pub fn keep_stage(stage: Stage, words: &mut [u32; 3])
 }
 
 // Whether a record is not complete.
+#[tactic(auto, unfolding(rules::specs::Tools::within))]
 fn inside_record(read: u32, left: u32) -> bool
     ensures { result ≡ (not (eqb left 0) || within 1 11 read) }
 {
-    if left != 0 {
-        return true;
-    }
-    if read < 1 {
-        return false;
-    }
-    read <= 11
+    left != 0 || (1..=11).contains(&read)
 }
 
 // Ends a stream: the number that ended it, else 17 inside a record, else 0. It stays ended by that number.
+#[tactic(auto, unfolding(stream_format::specs::Kept::end_stream, stream_format::specs::Kept::end_number, stream_format::specs::Kept::inside_record, stream_format::specs::Kept::is_ended, stream_format::specs::Kept::ended_word, stream_format::specs::Kept::read_word, stream_format::specs::Kept::left_word, stream_format::specs::Kept::ended_number, stream_format::specs::Kept::words_of))]
 pub fn end_stream(words: &mut [u32; 3]) -> u32
     ensures { end_stream words.old ≡ ended_as result words.new }
 {
-    let ended = words[0];
-    let read = words[1];
-    let left = words[2];
+    let [ended, read, left] = *words;
     if ended != 0 {
         return (ended - 1) % 65536;
     }
-    if inside_record(read, left) {
-        *words = [18, 0, 0];
-        return 17;
-    }
-    *words = [1, 0, 0];
-    0
+    let number = if inside_record(read, left) {
+        Refusal::InsideRecord.number()
+    } else {
+        0
+    };
+    keep_stage(Stage::Ended { number }, words);
+    number
 }
 
-// Copies bytes into the room.
+// Copies bytes into the room. One by one: of a copy of slices the compiler makes a call of C's memmove, which nothing needs.
 fn keep_bytes(room: &mut [u8; 65548], from: usize, bytes: &[u8])
     requires { from + length bytes.now ≤ 65548 }
     ensures { room.new ≡ sets room.old from bytes.now }
 {
-    let mut i = 0;
-    while i < bytes.len() {
-        room[from + i] = bytes[i];
-        i += 1;
+    for (i, &byte) in bytes.iter().enumerate() {
+        room[from + i] = byte;
     }
 }
 
-// Copies a whole header into the room. All bytes are read before one is stored: so the compiler can copy many at
-// a time, though it does not know that they lie outside the room.
-fn keep_header(room: &mut [u8; 65548], bytes: &[u8])
-    requires { length bytes.now ≡ 12 }
-    ensures { room.new ≡ sets room.old 0 bytes.now }
+// Copies a whole header into the room. It is passed by value: so the compiler can copy many bytes at a time, though
+// it does not know that they lie outside the room.
+fn keep_header(room: &mut [u8; 65548], header: [u8; 12])
+    ensures { room.new ≡ sets room.old 0 header }
 {
-    let byte0 = bytes[0];
-    let byte1 = bytes[1];
-    let byte2 = bytes[2];
-    let byte3 = bytes[3];
-    let byte4 = bytes[4];
-    let byte5 = bytes[5];
-    let byte6 = bytes[6];
-    let byte7 = bytes[7];
-    let byte8 = bytes[8];
-    let byte9 = bytes[9];
-    let byte10 = bytes[10];
-    let byte11 = bytes[11];
-    room[0] = byte0;
-    room[1] = byte1;
-    room[2] = byte2;
-    room[3] = byte3;
-    room[4] = byte4;
-    room[5] = byte5;
-    room[6] = byte6;
-    room[7] = byte7;
-    room[8] = byte8;
-    room[9] = byte9;
-    room[10] = byte10;
-    room[11] = byte11;
+    room[..12].copy_from_slice(&header);
 }
 
 // Takes bytes of a record that is read.
-fn take_body(read: usize, left: usize, room: &mut [u8; 65548], chunk: &[u8], at: usize) -> Next
+fn take_body<'a>(read: usize, left: usize, room: &mut [u8; 65548], bytes: &'a [u8]) -> Next<'a>
     requires le_read { 12 ≤ read }
     requires le_left { 1 ≤ left }
     requires left_bound { read + left ≤ 65548 }
-    requires at_in_bounds { at ≤ length chunk.now }
-    ensures { BodyGoes read left room.old chunk.now at result room.new }
+    ensures { BodyGoes read left room.old bytes.now result room.new }
 {
-    let more = chunk.len() - at;
+    let more = bytes.len();
     if more < left {
-        keep_bytes(room, read, &chunk[at..]);
-        return Next {
-            stage: Stage::Body {
-                read: read + more,
-                left: left - more,
-            },
-            at: chunk.len(),
-            event: Event::Nothing,
-        };
+        keep_bytes(room, read, bytes);
+        return Next::all_taken(Stage::Body {
+            read: read + more,
+            left: left - more,
+        });
     }
-    let end = at + left;
-    keep_bytes(room, read, &chunk[at..end]);
-    Next {
-        stage: Stage::Header { read: 0 },
-        at: end,
-        event: Event::Record { size: read + left },
-    }
+    let (body, rest) = bytes.split_at(left);
+    keep_bytes(room, read, body);
+    Next::complete(Event::Record { size: read + left }, rest)
 }
 
 // Steps over bytes of a record of another kind.
-fn step_over(left: usize, chunk: &[u8], at: usize) -> Next
+fn step_over(left: usize, bytes: &[u8]) -> Next<'_>
     requires le_left { 1 ≤ left }
     requires left_bound { left < 2 ^ 32 }
-    requires at_in_bounds { at ≤ length chunk.now }
-    ensures { OverGoes left chunk.now at result }
+    ensures { OverGoes left bytes.now result }
 {
-    let more = chunk.len() - at;
+    let more = bytes.len();
     if more < left {
-        return Next {
-            stage: Stage::Over { left: left - more },
-            at: chunk.len(),
-            event: Event::Nothing,
-        };
+        return Next::all_taken(Stage::Over { left: left - more });
     }
-    Next {
-        stage: Stage::Header { read: 0 },
-        at: at + left,
-        event: Event::Stepped,
-    }
+    Next::complete(Event::Stepped, &bytes[left..])
 }
 
 // Goes on after a header, which stands in the room.
-fn after_header(kind: Kind, room: &mut [u8; 65548], chunk: &[u8], at: usize) -> Next
-    requires { at ≤ length chunk.now }
-    ensures { Goes kind (header_read kind room.old) chunk.now at result room.new }
+fn after_header<'a>(kind: Kind, room: &mut [u8; 65548], bytes: &'a [u8]) -> Next<'a>
+    ensures { Goes kind (header_read kind room.old) bytes.now result room.new }
 {
     let size = four_bytes(room, 8) as usize;
-    if is_kind(kind, room) {
-        if size > 65536 {
-            return Next {
-                stage: Stage::Ended { number: 14 },
-                at: chunk.len(),
-                event: Event::Nothing,
-            };
-        }
-        if size == 0 {
-            return Next {
-                stage: Stage::Header { read: 0 },
-                at: at,
-                event: Event::Record { size: 12 },
-            };
-        }
-        return take_body(12, size, room, chunk, at);
-    }
+    let read = is_kind(kind, room);
     if size == 0 {
-        return Next {
-            stage: Stage::Header { read: 0 },
-            at: at,
-            event: Event::Stepped,
+        let event = if read {
+            Event::Record { size: 12 }
+        } else {
+            Event::Stepped
         };
+        return Next::complete(event, bytes);
     }
-    step_over(size, chunk, at)
-}
-
-// Takes a whole header, and then bytes of the record that it begins.
-fn take_whole_header(kind: Kind, room: &mut [u8; 65548], chunk: &[u8], at: usize) -> Next
-    requires { at + 12 ≤ length chunk.now }
-    ensures { GoesFrom kind (Header 0) room.old chunk.now at result room.new }
-{
-    let body = at + 12;
-    keep_header(room, &chunk[at..body]);
-    after_header(kind, room, chunk, body)
+    if !read {
+        return step_over(size, bytes);
+    }
+    if size > 65536 {
+        return Next::all_taken(Stage::Ended {
+            number: Refusal::LongRecord.number(),
+        });
+    }
+    take_body(12, size, room, bytes)
 }
 
 // Takes bytes of a header, and then of the record that it begins. Most headers lie whole in a chunk.
-fn take_header(kind: Kind, read: usize, room: &mut [u8; 65548], chunk: &[u8], at: usize) -> Next
-    requires read_bound { read < 12 }
-    requires at_in_bounds { at ≤ length chunk.now }
-    ensures { GoesFrom kind (Header read) room.old chunk.now at result room.new }
+fn take_header<'a>(kind: Kind, read: usize, room: &mut [u8; 65548], bytes: &'a [u8]) -> Next<'a>
+    requires { read < 12 }
+    ensures { GoesFrom kind (Header read) room.old bytes.now result room.new }
 {
-    let more = chunk.len() - at;
     if read == 0 {
-        if more >= 12 {
-            return take_whole_header(kind, room, chunk, at);
+        if let Some((header, rest)) = bytes.split_first_chunk::<12>() {
+            keep_header(room, *header);
+            return after_header(kind, room, rest);
         }
     }
-    if more < 12 - read {
-        keep_bytes(room, read, &chunk[at..]);
-        return Next {
-            stage: Stage::Header { read: read + more },
-            at: chunk.len(),
-            event: Event::Nothing,
-        };
+    let left = 12 - read;
+    let more = bytes.len();
+    if more < left {
+        keep_bytes(room, read, bytes);
+        return Next::all_taken(Stage::Header { read: read + more });
     }
-    let body = at + (12 - read);
-    keep_bytes(room, read, &chunk[at..body]);
-    after_header(kind, room, chunk, body)
+    let (header, rest) = bytes.split_at(left);
+    keep_bytes(room, read, header);
+    after_header(kind, room, rest)
 }
 
-// Takes the bytes of a chunk from a place on, up to the one that completes a record, if one does.
-pub fn next_record(
+// Takes bytes up to the one that completes a record, if one does.
+pub fn next_record<'a>(
     kind: Kind,
     stage: Stage,
     room: &mut [u8; 65548],
-    chunk: &[u8],
-    at: usize,
-) -> Next
-    requires sound { Sound stage }
-    requires at_in_bounds { at ≤ length chunk.now }
-    ensures { GoesFrom kind stage room.old chunk.now at result room.new }
+    bytes: &'a [u8],
+) -> Next<'a>
+    requires { Sound stage }
+    ensures { GoesFrom kind stage room.old bytes.now result room.new }
 {
     match stage {
-        Stage::Header { read } => take_header(kind, read, room, chunk, at),
-        Stage::Body { read, left } => take_body(read, left, room, chunk, at),
-        Stage::Over { left } => step_over(left, chunk, at),
-        Stage::Ended { number } => Next {
-            stage: Stage::Ended { number },
-            at: chunk.len(),
-            event: Event::Nothing,
-        },
+        Stage::Header { read } => take_header(kind, read, room, bytes),
+        Stage::Body { read, left } => take_body(read, left, room, bytes),
+        Stage::Over { left } => step_over(left, bytes),
+        Stage::Ended { number: _ } => Next::all_taken(stage),
     }
 }

@@ -3,28 +3,23 @@
 #![tactic(auto)]
 
 ghost use Rattle.std.specs.Prelude.{◌≡◌};
+ghost use Rattle.rules.specs.Numbers.{number_given, vector_given, answer_given};
 ghost use Rattle.rules.specs.Table.{lent, left, clear, add, withdraw, change, match_vector, lookup, lookup_list, answered};
 
-use lookup_answers::answer_refused;
-use lookups::{answer_in_words, list_in_words};
+use lookups::answer_list;
 use refusals::{refuse_add, refuse_hop, refuse_list, refuse_route};
-use rules::{Answer, Settings, Vector};
-use settings::{refuse_memory, refuse_party};
+use rules::{Lookup, Refusal, Settings};
+use settings::refuse_memory;
 use updates::{add_checked, change_checked, withdraw_checked};
-use vectors::vector_of;
-use zeros::{zero_bytes, zero_words};
 
-// Empties the table of both parties' routes: writes zero to every byte and word. Gives back 0, or a refusal's number.
-pub fn clear(settings: Settings, counters: &mut [u8], slots: &mut [u32]) -> u32
-    ensures { clear settings (lent counters.old slots.old) ≡ left result counters.new slots.new }
+// Empties the table of both parties' routes: writes zero to every byte and word.
+pub fn clear(settings: Settings, counters: &mut [u8], slots: &mut [u32]) -> Result<(), Refusal>
+    ensures { clear settings (lent counters.old slots.old) ≡ left (number_given result) counters.new slots.new }
 {
-    let refusal = refuse_memory(settings, counters, slots);
-    if refusal != 0 {
-        return refusal;
-    }
-    zero_bytes(counters);
-    zero_words(slots);
-    0
+    refuse_memory(settings, counters, slots)?;
+    counters.fill(0);
+    slots.fill(0);
+    Ok(())
 }
 
 // Stores a route for a party: prefix p of a length, with its next hop. One that the party has stored keeps its
@@ -37,13 +32,10 @@ pub fn add(
     p: u32,
     length: u32,
     hop: u32,
-) -> u32
-    ensures { add settings (lent counters.old slots.old) party p length hop ≡ left result counters.new slots.new }
+) -> Result<(), Refusal>
+    ensures { add settings (lent counters.old slots.old) party p length hop ≡ left (number_given result) counters.new slots.new }
 {
-    let refusal = refuse_add(settings, counters, slots, party, p, length, hop);
-    if refusal != 0 {
-        return refusal;
-    }
+    let (party, hop) = refuse_add(settings, counters, slots, party, p, length, hop)?;
     add_checked(settings, counters, slots, party, p, length, hop)
 }
 
@@ -55,13 +47,10 @@ pub fn withdraw(
     party: u32,
     p: u32,
     length: u32,
-) -> u32
-    ensures { withdraw settings (lent counters.old slots.old) party p length ≡ left result counters.new slots.new }
+) -> Result<(), Refusal>
+    ensures { withdraw settings (lent counters.old slots.old) party p length ≡ left (number_given result) counters.new slots.new }
 {
-    let refusal = refuse_route(settings, counters, slots, party, p, length);
-    if refusal != 0 {
-        return refusal;
-    }
+    let party = refuse_route(settings, counters, slots, party, p, length)?;
     withdraw_checked(settings, counters, slots, party, p, length)
 }
 
@@ -74,33 +63,23 @@ pub fn change(
     p: u32,
     length: u32,
     hop: u32,
-) -> u32
-    ensures { change settings (lent counters.old slots.old) party p length hop ≡ left result counters.new slots.new }
+) -> Result<(), Refusal>
+    ensures { change settings (lent counters.old slots.old) party p length hop ≡ left (number_given result) counters.new slots.new }
 {
-    let refusal = refuse_hop(settings, counters, slots, party, p, length, hop);
-    if refusal != 0 {
-        return refusal;
-    }
+    let (party, hop) = refuse_hop(settings, counters, slots, party, p, length, hop)?;
     change_checked(settings, counters, slots, party, p, length, hop)
 }
 
 // Which lengths' filters claim an address, whichever party's routes they hold: bit L - 1 for length L.
-pub fn match_vector(settings: Settings, counters: &[u8], slots: &[u32], address: u32) -> Vector
-    ensures { result ≡ match_vector settings (lent counters.now slots.now) address }
+pub fn match_vector(
+    settings: Settings,
+    counters: &[u8],
+    slots: &[u32],
+    address: u32,
+) -> Result<u32, Refusal>
+    ensures { vector_given result ≡ match_vector settings (lent counters.now slots.now) address }
 {
-    let refusal = refuse_memory(settings, counters, slots);
-    if refusal != 0 {
-        return Vector {
-            refusal: refusal,
-            vector: 0,
-        };
-    }
-    let d = settings.d;
-    let vector = vector_of(settings, &d, counters, address);
-    Vector {
-        refusal: 0,
-        vector: vector,
-    }
+    lookups::match_vector(&settings, counters, slots, address)
 }
 
 // The next hop of the longest route stored for a party that matches an address, with its length and the
@@ -111,16 +90,10 @@ pub fn lookup(
     slots: &[u32],
     party: u32,
     address: u32,
-) -> Answer
-    ensures { result ≡ lookup settings (lent counters.now slots.now) party address }
+) -> Result<Lookup, Refusal>
+    ensures { answer_given result ≡ lookup settings (lent counters.now slots.now) party address }
 {
-    let refusal = refuse_party(settings, counters, slots, party);
-    if refusal != 0 {
-        return answer_refused(refusal);
-    }
-    let d = settings.d;
-    let claimed = vector_of(settings, &d, counters, address);
-    answer_in_words(settings, slots, party, address, claimed)
+    lookups::lookup(&settings, counters, slots, party, address)
 }
 
 // A party's lookup of each address of a list, in its order: found as 1 or 0, hop, length and probes, four
@@ -132,21 +105,17 @@ pub fn lookup_list(
     party: u32,
     addresses: &[u32],
     results: &mut [u32],
-) -> u32
-    ensures { lookup_list settings (lent counters.now slots.now) party addresses.now results.old ≡ answered result results.new }
+) -> Result<(), Refusal>
+    ensures { lookup_list settings (lent counters.now slots.now) party addresses.now results.old ≡ answered (number_given result) results.new }
 {
-    let refused = refuse_list(
+    let party = refuse_list(
         settings,
         counters.len(),
         slots.len(),
         party,
         addresses.len(),
         results.len(),
-    );
-    if refused != 0 {
-        return refused;
-    }
-    let d = settings.d;
-    list_in_words(settings, &d, counters, slots, party, addresses, results);
-    0
+    )?;
+    answer_list(&settings, counters, slots, party, addresses, results);
+    Ok(())
 }

@@ -1,11 +1,11 @@
 -- Laws of putting texts: one after the other is one longer text, and no byte more is touched.
-use Prim.Native.Nat.{ℕ, suc, ◌+◌, ◌≤◌, ◌<◌}
+use Prim.Native.Nat.{ℕ, suc, ◌+◌, ◌≤◌}
 use mathlib.Core.Path.{◌≡◌, refl, ap, sym, ◌∙◌}
-use mathlib.Core.List.{List, [], ◌∷◌, ◌++◌}
+use mathlib.Core.List.{List, [], ◌∷◌, ◌++◌, append_assoc}
 use native.Mathlib.Omega.{arith}
-use native.Mathlib.Numerals.{add-one}
-use lib.ListN.{length, get_or, take, drop, set, length-append}
-use lib.Seq.{sets, sets-eq, length-sets, take-suc, length-take-le, take-append_seam}
+use borrow.Rule.Slice.PartMut.{put_mid}
+use lib.ListN.{length, take, drop, set, length-append}
+use lib.Seq.{sets, sets-eq, length-sets, drop-drop, take-append_seam}
 use Rattle.text_answers.specs.Texts.{Put}
 
 pub sets_append : (l : List ℕ) (i : ℕ) (a b : List ℕ) → sets l i (a ++ b) ≡ sets (sets l i a) (i + length a) b
@@ -13,10 +13,9 @@ sets_append l i [] b = ap (λ (k : ℕ). sets l k b) (omega arith)
 sets_append l i (x ∷ a) b =
     sets_append (set l i x) (suc i) a b ∙ ap (λ (k : ℕ). sets (sets (set l i x) (suc i) a) k b) (omega arith)
 
--- one byte more
-pub sets_more : (l : List ℕ) (at : ℕ) (bytes : List ℕ) (i : ℕ) → i < length bytes → set (sets l at (take i bytes)) (at + i) (get_or bytes i 0) ≡ sets l at (take (i + 1) bytes)
-sets_more l at bytes i h =
-    rw (add-one, take-suc bytes i 0 h, sets_append, length-take-le i bytes (omega arith))
+-- a part that is overwritten is its bytes set one after the other
+pub sets_part : (l : List ℕ) (at k : ℕ) (bytes : List ℕ) → k ≡ length bytes → at + k ≤ length l → put_mid at k l bytes ≡ sets l at bytes
+sets_part l at k bytes e room = rw (e, sets-eq bytes l at (omega arith), append_assoc, drop-drop)
 
 -- a byte
 pub put_byte : (a : List ℕ) (i b : ℕ) → Put a i (b ∷ []) (set a i b) (i + 1)

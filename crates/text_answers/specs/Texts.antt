@@ -2,7 +2,7 @@
 use Rattle.std.specs.Prelude.{ℕ, zero, suc, ◌+◌, ◌/◌, ◌%◌, ◌≤◌, ◌≡◌, cond, List, [], ◌∷◌, ◌++◌, length, ltb, eqb}
 use Prim.Native.Char.{code}
 use Rattle.std.proofs.lemmas.List.Edits.{sets}
-use Rattle.rules.specs.declared.Answer.{Answer}
+use Rattle.rules.specs.Table.{Answer}
 use Rattle.text_spelling.specs.Spelling.{spelled}
 
 -- the last digits of n as characters, at most so many, with no leading zero

@@ -3,21 +3,19 @@
 #![tactic(auto)]
 
 ghost use Rattle.std.specs.Prelude.{◌+◌, ◌≤◌, length};
+ghost use Rattle.rules.specs.Numbers.{number_given, answer_given};
 ghost use Rattle.text_answers.specs.Texts.{decimal, update_text, lookup_text, unreadable, Put, PutWithin};
 
-use rules::Answer;
+use rules::{Lookup, Refusal};
 
 // Puts bytes at a position.
 fn put(out: &mut [u8], at: usize, bytes: &[u8]) -> usize
     requires { at + length bytes.now ≤ length out.old }
     ensures { Put out.old at bytes.now out.new result }
 {
-    let mut i = 0;
-    while i < bytes.len() {
-        out[at + i] = bytes[i];
-        i += 1;
-    }
-    at + bytes.len()
+    let end = at + bytes.len();
+    out[at..end].copy_from_slice(bytes);
+    end
 }
 
 // Puts a number's decimal digits at a position.
@@ -25,47 +23,55 @@ fn put_number(out: &mut [u8], at: usize, n: u32) -> usize
     requires { at + 10 ≤ length out.old }
     ensures { PutWithin 10 out.old at (decimal n) out.new result }
 {
-    if n < 10 {
-        out[at] = (48 + n) as u8;
-        return at + 1;
-    }
-    let last = put_number(out, at, n / 10);
-    out[last] = (48 + n % 10) as u8;
+    let one_digit = n < 10;
+    let last = if one_digit {
+        at
+    } else {
+        put_number(out, at, n / 10)
+    };
+    out[last] = b'0' + (n % 10) as u8;
     last + 1
 }
 
 // Puts what an update answers: ok, or the number of its refusal.
-pub fn put_outcome(out: &mut [u8], at: usize, refusal: u32) -> usize
+pub fn put_outcome(out: &mut [u8], at: usize, outcome: Result<(), Refusal>) -> usize
     requires { at + 33 ≤ length out.old }
-    ensures { PutWithin 33 out.old at (update_text refusal) out.new result }
+    ensures { PutWithin 33 out.old at (update_text (number_given outcome)) out.new result }
 {
-    if refusal == 0 {
-        return put(out, at, b"ok\n");
+    match outcome {
+        Ok(()) => put(out, at, b"ok\n"),
+        Err(refusal) => {
+            let number = refusal.number();
+            let digits = put(out, at, b"refused ");
+            let end = put_number(out, digits, number);
+            put(out, end, b"\n")
+        }
     }
-    let number = put(out, at, b"refused ");
-    let end = put_number(out, number, refusal);
-    put(out, end, b"\n")
 }
 
 // Puts what a lookup answers: hop, length and probes, or none and its probes.
-pub fn put_found(out: &mut [u8], at: usize, answer: Answer) -> usize
+pub fn put_found(out: &mut [u8], at: usize, found: Result<Lookup, Refusal>) -> usize
     requires { at + 33 ≤ length out.old }
-    ensures { PutWithin 33 out.old at (lookup_text answer) out.new result }
+    ensures { PutWithin 33 out.old at (lookup_text (answer_given found)) out.new result }
 {
-    if answer.refusal != 0 {
-        return put_outcome(out, at, answer.refusal);
+    match found {
+        Ok(lookup) => match lookup.route {
+            Some(route) => {
+                let gap = put_number(out, at, route.hop);
+                let length = put(out, gap, b" ");
+                let second_gap = put_number(out, length, route.length);
+                let probes = put(out, second_gap, b" ");
+                let end = put_number(out, probes, lookup.probes);
+                put(out, end, b"\n")
+            }
+            None => {
+                let probes = put(out, at, b"none ");
+                let end = put_number(out, probes, lookup.probes);
+                put(out, end, b"\n")
+            }
+        },
+        Err(refusal) => put_outcome(out, at, Err(refusal)),
     }
-    if answer.found {
-        let gap = put_number(out, at, answer.hop);
-        let length = put(out, gap, b" ");
-        let second_gap = put_number(out, length, answer.length);
-        let probes = put(out, second_gap, b" ");
-        let end = put_number(out, probes, answer.probes);
-        return put(out, end, b"\n");
-    }
-    let probes = put(out, at, b"none ");
-    let end = put_number(out, probes, answer.probes);
-    put(out, end, b"\n")
 }
 
 // Puts what a line of another shape answers.

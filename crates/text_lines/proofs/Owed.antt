@@ -11,10 +11,10 @@ use lib.ListN.{length, take, set, length-append, length-take, length-set}
 use lib.Seq.{take_all, take-suc-set, take-append-le, length-take-le}
 use lib.Dec.{ltb, eqb}
 use borrow.Author.Tests.{eq-eqb, ne_eqb, lt-ltb, ltb-true, ltb-false, eqb-true, eqb-false}
+use Rattle.std.specs.Prelude.{None}
 use Rattle.rules.specs.Tools.{fed}
 use Rattle.rules.specs.declared.Settings.{Settings}
 use Rattle.rules.specs.Table.{Memory}
-use Rattle.text_requests.specs.declared.Request.TheVariants.{Unreadable}
 use Rattle.text_requests.specs.Shapes.{request}
 use Rattle.text_lines.specs.Lines.{line_reply, lines_after, lines_text, Stream, keep, end_line, take_byte, feed, finish}
 
@@ -33,7 +33,7 @@ abbrev pub begun_with : (b : ℕ) → (begun : List ℕ) → List ℕ
 begun_with b begun = cond (eqb b 10) [] (begun ++ b ∷ [])
 
 -- a line above 64 bytes is unreadable
-too_long : (line : List ℕ) → 64 < length line → request line ≡ Unreadable
+too_long : (line : List ℕ) → 64 < length line → request line ≡ None
 unfolding request
 too_long line h = simp (lt-ltb _ _ h)
 

@@ -3,7 +3,7 @@ use Prim.Native.Nat.{ℕ}
 use mathlib.Core.Path.{◌≡◌, refl}
 use mathlib.Core.List.{List}
 use Rattle.rules.specs.Table.{Memory, Outcome, left, lent}
-use Rattle.rules.specs.declared.Answer.{Answer}
+use Rattle.rules.specs.Table.{Answer}
 use Rattle.text_answers.specs.Texts.{PutWithin, update_text, lookup_text}
 use Rattle.text_lines.specs.Lines.{updated, Replied}
 

@@ -73,13 +73,8 @@ module _ (t : Settings) {s : Stream} {m : Memory} {line before out : List ℕ} {
     inside = l.inside;
   })
 
--- a turn of feeding: i bytes of the chunk are taken, each answered by at most 33, and every lent list is as long as it was
+-- a turn of feeding: i bytes of the chunk are taken, each answered by at most 33
 pub record Turn (t : Settings) (counters₀ slots₀ line₀ : List ℕ) (kept : ℕ) (chunk out₀ counters slots line out : List ℕ) (count written i : ℕ) : Type 0 where
-  pub inside : i ≤ length chunk
   pub kept_in : count ≤ 65
   pub short : written ≤ i * 33
-  pub counters_long : length counters ≡ length counters₀
-  pub slots_long : length slots ≡ length slots₀
-  pub line_long : length line ≡ length line₀
-  pub out_long : length out ≡ length out₀
   pub lies : Lies (not_refused (feed t (going (lent counters₀ slots₀) line₀ kept) (take i chunk))) (lent counters slots) line out₀ out (record { refused = false; count = count; written = written })

@@ -1,13 +1,12 @@
 -- What the text program answers: to a line, to the lines of an input, and to a stream that comes in chunks.
-use Rattle.std.specs.Prelude.{ℕ, ◌+◌, ◌*◌, ◌≤◌, ◌≡◌, Bool, false, cond, not, ◌&&◌, List, [], ◌∷◌, ◌++◌, length, take, set, ltb, leb, eqb}
+use Rattle.std.specs.Prelude.{ℕ, ◌+◌, ◌*◌, ◌≤◌, ◌≡◌, Bool, false, cond, not, ◌&&◌, List, [], ◌∷◌, ◌++◌, length, take, set, ltb, leb, eqb, true, Option, Some, None}
 use Rattle.rules.specs.Tools.{fed}
 use Rattle.rules.specs.declared.Settings.{Settings}
 use Rattle.rules.specs.Table.{Memory, Outcome, add, withdraw, change, lookup}
 use Rattle.text_requests.specs.declared.Request.{Request}
-use Rattle.text_requests.specs.declared.Request.TheVariants.{Add, Drop, Move, Find, Unreadable}
+use Rattle.text_requests.specs.declared.Request.TheVariants.{Add, Drop, Move, Find}
 use Rattle.text_requests.specs.Shapes.{request}
 use Rattle.text_answers.specs.Texts.{update_text, lookup_text, unreadable, Put, PutWithin}
-use Rattle.text_lines.specs.declared.Next.{Next}
 use Rattle.text_lines.specs.declared.Fed.{Fed}
 
 -- ---- One line
@@ -21,13 +20,13 @@ pub record Reply : Type 0 where
 unfoldable pub updated : Outcome → Reply
 updated u = record { text = update_text u.refusal; memory = u.memory }
 
--- the call that a line asks for replies, for party 0; an unreadable line leaves the memory as it is
-unfoldable pub reply : Settings → Memory → Request → Reply
-reply t m (Add p L hop) = updated (add t m 0 p L hop)
-reply t m (Drop p L) = updated (withdraw t m 0 p L)
-reply t m (Move p L hop) = updated (change t m 0 p L hop)
-reply t m (Find address) = record { text = lookup_text (lookup t m 0 address); memory = m }
-reply t m Unreadable = record { text = unreadable; memory = m }
+-- the call that a line asks for replies, for party 0; an unreadable line, which asks for none, leaves the memory as it is
+unfoldable pub reply : Settings → Memory → Option Request → Reply
+reply t m (Some (Add p L hop)) = updated (add t m 0 p L hop)
+reply t m (Some (Drop p L)) = updated (withdraw t m 0 p L)
+reply t m (Some (Move p L hop)) = updated (change t m 0 p L hop)
+reply t m (Some (Find address)) = record { text = lookup_text (lookup t m 0 address); memory = m }
+reply t m None = record { text = unreadable; memory = m }
 
 -- what is answered to a line of any bytes
 unfoldable pub line_reply : Settings → Memory → (line : List ℕ) → Reply
@@ -136,6 +135,16 @@ pub record Replied (r : Reply) (memory : Memory) (before : List ℕ) (at : ℕ) 
   pub memory_is : memory ≡ r.memory
   pub put : PutWithin 33 before at r.text after next
 
+-- what answering a line comes to: whether it is refused, and where the next answer goes
+pub record Next : Type 0 where
+  pub refused : Bool
+  pub at : ℕ
+
+-- what the call gives back, told so: where it is refused, with none, the next answer goes where this one would have
+abbrev pub next_told : (at : ℕ) → Option ℕ → Next
+next_told at (Some next) = record { refused = false; at = next }
+next_told at None = record { refused = true; at = at }
+
 -- what answering a line gives back and leaves
 pub record Told (x : Tried Reply) (memory : Memory) (before : List ℕ) (at : ℕ) (after : List ℕ) (next : Next) : Type 0 where
   pub refused_is : next.refused ≡ x.refused
@@ -147,8 +156,20 @@ pub record Room (line : List ℕ) (kept ends : ℕ) (out : List ℕ) : Type 0 wh
   pub kept_in : kept ≤ 65
   pub out_room : ends * 33 ≤ length out
 
+-- what a call on a stream comes to: whether it is refused, how many bytes of the unfinished line are kept, and how many
+-- bytes of answers were written
+pub record Feeding : Type 0 where
+  pub refused : Bool
+  pub count : ℕ
+  pub written : ℕ
+
+-- what the call gives back, told so: where it is refused, with none, as many are kept as there were, and none written
+abbrev pub fed_told : (kept : ℕ) → Option Fed → Feeding
+fed_told kept (Some fed) = record { refused = false; count = fed.count; written = fed.written }
+fed_told kept None = record { refused = true; count = kept; written = 0 }
+
 -- what a call on a stream gives back and leaves: the stream lies in lent memory, with its answers at the front of out
-pub record Lies (x : Tried Stream) (memory : Memory) (line before after : List ℕ) (r : Fed) : Type 0 where
+pub record Lies (x : Tried Stream) (memory : Memory) (line before after : List ℕ) (r : Feeding) : Type 0 where
   pub refused_is : r.refused ≡ x.refused
   pub memory_is : memory ≡ x.leaves.memory
   pub line_is : line ≡ x.leaves.line

@@ -2,17 +2,11 @@
 // What has been read is answered before more is waited for; a read or a write that fails ends it.
 #![tactic(auto)]
 
-ghost use Rattle.std.specs.Prelude.{◌≡◌, ◌≤◌, length};
+ghost use Rattle.std.specs.Prelude.{◌≡◌, length};
 
 use rules::Settings;
+use std::io;
 use std::io::{Read, Write};
-
-// Writes the first n bytes.
-fn write_first(output: &mut impl Write, bytes: &[u8], n: usize) -> bool
-    requires { n ≤ length bytes.now }
-{
-    output.write_all(&bytes[..n]).is_ok()
-}
 
 // Answers all of the input, a chunk at a time.
 fn serve(
@@ -24,29 +18,34 @@ fn serve(
     line: &mut [u8],
     chunk: &mut [u8],
     out: &mut [u8],
-) {
+) -> io::Result<()> {
     let mut kept = 0;
     // A proved loop has to end, and nothing says that the input does: no run uses these turns up.
-    let mut turns = u64::MAX;
-    while turns > 0 {
-        let Ok(n) = input.read(chunk) else {
-            return;
-        };
+    for _ in 0..u64::MAX {
+        let n = input.read(chunk)?;
         if n == 0 {
-            let last = text_lines::finish_input(settings, counters, slots, line, kept, out);
-            write_first(output, out, last.written);
-            return;
+            if let Some(last) = text_lines::finish_input(
+                settings, counters, slots, line, kept, out,
+            ) {
+                output.write_all(&out[..last.written])?;
+            }
+            return Ok(());
         }
-        let fed = text_lines::feed_chunk(settings, counters, slots, line, kept, &chunk[..n], out);
-        if fed.refused {
-            return;
-        }
-        if !write_first(output, out, fed.written) {
-            return;
-        }
+        let Some(fed) = text_lines::feed_chunk(
+            settings,
+            counters,
+            slots,
+            line,
+            kept,
+            &chunk[..n],
+            out,
+        ) else {
+            return Ok(());
+        };
+        output.write_all(&out[..fed.written])?;
         kept = fed.count;
-        turns -= 1;
     }
+    Ok(())
 }
 
 // Zeros, as many as the type says: so many that a proof had better not count them one by one.
@@ -68,12 +67,14 @@ fn main(rt: HostRuntime) {
     };
     let mut counters = [0u8; 512];
     let mut slots = [0u32; 258];
-    table::clear(settings, &mut counters, &mut slots);
+    // These counters and slots are of the size that the settings ask, so this is not refused.
+    let _ = table::clear(settings, &mut counters, &mut slots);
     // The rooms that no chunk is refused with: 65 bytes for the line, and 33 for each of a chunk.
     let mut line = [0u8; 65];
     let mut chunk = [0u8; 16384];
     let mut out: [u8; 540672] = zeros();
-    serve(
+    // A read or a write that fails ends the program, which has nothing to say of it.
+    let _ = serve(
         &mut rt.stdin(),
         &mut rt.stdout(),
         settings,

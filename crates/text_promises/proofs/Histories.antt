@@ -4,14 +4,16 @@ use Prim.Native.Nat.{ℕ, ◌^◌, ◌<◌}
 use mathlib.Core.Path.{◌≡◌, refl, ap, ap₂, ◌∙◌}
 use mathlib.Core.Bool.{true}
 use mathlib.Core.List.{List, [], ◌∷◌, ◌++◌}
-use mathlib.Core.Option.{Option, some, none}
+use mathlib.Core.Option.{some, none}
+use mathlib.Core.Option as math
 use lib.Dec.{lit≤}
 use borrow.Author.Tests.{lt-ltb}
+use Rattle.std.specs.Prelude.{Option, Some, None}
 use Rattle.rules.specs.declared.Settings.{Settings}
 use Rattle.rules.specs.Table.{Memory, lookup}
 use Rattle.rules.specs.Calls.{Call, Add as Call-as-Add, Withdraw, Change, word_sized, all_word_sized, act, each, run}
 use Rattle.text_requests.specs.declared.Request.{Request}
-use Rattle.text_requests.specs.declared.Request.TheVariants.{Add, Drop, Move, Find, Unreadable}
+use Rattle.text_requests.specs.declared.Request.TheVariants.{Add, Drop, Move, Find}
 use Rattle.text_requests.specs.Shapes.{request}
 use Rattle.text_requests.proofs.Words.{WordSized, request_words}
 use Rattle.text_answers.specs.Texts.{update_text, lookup_text}
@@ -35,12 +37,12 @@ module _ (t : Settings) (m : Memory) where
   unfolding numbers_told line_reply reply updated calls_of act word_sized all_word_sized run each
   line_made line = go (request line) (request_words line)
     where
-      go : (r : Request) → WordSized r → SingleCalls t m (calls_of r) (numbers_told (calls_of r) (reply t m r).text) (reply t m r).memory
-      go (Add p L hop) word = told (Call-as-Add 0 p L hop) (lt-ltb p (2 ^ 32) word)
-      go (Drop p L) word = told (Withdraw 0 p L) (lt-ltb p (2 ^ 32) word)
-      go (Move p L hop) word = told (Change 0 p L hop) (lt-ltb p (2 ^ 32) word)
-      go (Find address) word = made t m [] refl
-      go Unreadable word = made t m [] refl
+      go : (r : Option Request) → WordSized r → SingleCalls t m (calls_of r) (numbers_told (calls_of r) (reply t m r).text) (reply t m r).memory
+      go (Some (Add p L hop)) word = told (Call-as-Add 0 p L hop) (lt-ltb p (2 ^ 32) word)
+      go (Some (Drop p L)) word = told (Withdraw 0 p L) (lt-ltb p (2 ^ 32) word)
+      go (Some (Move p L hop)) word = told (Change 0 p L hop) (lt-ltb p (2 ^ 32) word)
+      go (Some (Find address)) word = made t m [] refl
+      go None word = made t m [] refl
 
 module _ {t : Settings} {calls : List Call} {answers : List ℕ} {m : Memory} (history : History t calls answers m) where
   -- what a lookup answers is written so
@@ -48,7 +50,7 @@ module _ {t : Settings} {calls : List Call} {answers : List ℕ} {m : Memory} (h
   unfolding lookup_text answer_by find_text
   find_on_paper address word = rw (lookup_by_routes (kept history) 0 (lit≤ tt) address word) (go (longest address (routes_of 0 (stored_by calls answers))))
     where
-      go : (o : Option Route) → lookup_text (answer_by t (stored_by calls answers) address o) ≡ find_text t (stored_by calls answers) address o
+      go : (o : math.Option Route) → lookup_text (answer_by t (stored_by calls answers) address o) ≡ find_text t (stored_by calls answers) address o
       go (some r) = refl
       go none = refl
 
@@ -57,12 +59,12 @@ module _ {t : Settings} {calls : List Call} {answers : List ℕ} {m : Memory} (h
   unfolding line_reply reply updated text_by act word_sized
   text_on_paper line = go (request line) (request_words line)
     where
-      go : (r : Request) → WordSized r → (reply t m r).text ≡ text_by t (stored_by calls answers) r
-      go (Add p L hop) word = ap update_text (numbers_given history (Call-as-Add 0 p L hop) (lt-ltb p (2 ^ 32) word))
-      go (Drop p L) word = ap update_text (numbers_given history (Withdraw 0 p L) (lt-ltb p (2 ^ 32) word))
-      go (Move p L hop) word = ap update_text (numbers_given history (Change 0 p L hop) (lt-ltb p (2 ^ 32) word))
-      go (Find address) word = find_on_paper address word
-      go Unreadable word = refl
+      go : (r : Option Request) → WordSized r → (reply t m r).text ≡ text_by t (stored_by calls answers) r
+      go (Some (Add p L hop)) word = ap update_text (numbers_given history (Call-as-Add 0 p L hop) (lt-ltb p (2 ^ 32) word))
+      go (Some (Drop p L)) word = ap update_text (numbers_given history (Withdraw 0 p L) (lt-ltb p (2 ^ 32) word))
+      go (Some (Move p L hop)) word = ap update_text (numbers_given history (Change 0 p L hop) (lt-ltb p (2 ^ 32) word))
+      go (Some (Find address)) word = find_on_paper address word
+      go None word = refl
 
 -- So it is of lines, one after the other.
 pub lines_on_paper : {t : Settings} {calls : List Call} {answers : List ℕ} {m : Memory} → History t calls answers m → (lines : List (List ℕ))

@@ -6,20 +6,22 @@ use Prim.Native.Nat.{ℕ, ◌^◌, ◌≤◌, ◌<◌}
 use mathlib.Core.Path.{◌≡◌, refl, sym, ap, subst, ◌∙◌}
 use mathlib.Core.Bool.{true}
 use mathlib.Core.List.{List, [], ◌∷◌, ◌++◌}
-use mathlib.Core.Option.{Option, some, none}
+use mathlib.Core.Option.{some, none}
+use mathlib.Core.Option as math
 use mathlib.Core.Logic.{◌↔◌}
 use lib.ListN.{length, replicate}
 use lib.Dec.{lit≤}
+use Rattle.std.specs.Prelude.{Option, Some, None}
 use Rattle.rules.specs.Tools.{input_of}
 use Rattle.rules.specs.declared.Settings.{Settings}
-use Rattle.rules.specs.declared.Answer.{Answer}
+use Rattle.rules.specs.Table.{Answer}
 use Rattle.rules.specs.Table.{Memory, lent, lookup}
 use Rattle.rules.specs.Calls.{Call, Clear, Add as Call-as-Add, Withdraw, Change, word_sized, all_word_sized, act, each, run}
 use Rattle.rules.proofs.Members.{both}
 use Rattle.rules.proofs.Worked.{T, computing}
 use Rattle.text_spelling.specs.Spelling.{spelled}
 use Rattle.text_requests.specs.declared.Request.{Request}
-use Rattle.text_requests.specs.declared.Request.TheVariants.{Add, Drop, Move, Find, Unreadable}
+use Rattle.text_requests.specs.declared.Request.TheVariants.{Add, Drop, Move, Find}
 use Rattle.text_requests.specs.Shapes.{request}
 use Rattle.text_requests.proofs.Words.{request_words}
 use Rattle.text_answers.specs.Texts.{update_text, route_text, none_text, lookup_text, unreadable}
@@ -56,21 +58,21 @@ module _ (t : Settings) (m : Memory) (line : List ℕ) where
   unfolding line_reply reply updated calls_of act
   update_written call asks = go (request line) asks
     where
-      go : (r : Request) → calls_of r ≡ call ∷ [] → reply t m r ≡ record { text = update_text (act t call m).refusal; memory = (act t call m).memory }
-      go (Add p L hop) e = let same : Call-as-Add 0 p L hop ≡ call = cc in rw (← same)
-      go (Drop p L) e = let same : Withdraw 0 p L ≡ call = cc in rw (← same)
-      go (Move p L hop) e = let same : Change 0 p L hop ≡ call = cc in rw (← same)
-      go (Find address) e = cc
-      go Unreadable e = cc
+      go : (r : Option Request) → calls_of r ≡ call ∷ [] → reply t m r ≡ record { text = update_text (act t call m).refusal; memory = (act t call m).memory }
+      go (Some (Add p L hop)) e = let same : Call-as-Add 0 p L hop ≡ call = cc in rw (← same)
+      go (Some (Drop p L)) e = let same : Withdraw 0 p L ≡ call = cc in rw (← same)
+      go (Some (Move p L hop)) e = let same : Change 0 p L hop ≡ call = cc in rw (← same)
+      go (Some (Find address)) e = cc
+      go None e = cc
 
   -- A find is answered by what a lookup answers; it leaves memory and paper as they are.
-  pub find_written : (address : ℕ) → request line ≡ Find address
+  pub find_written : (address : ℕ) → request line ≡ Some (Find address)
       → (line_reply t m line ≡ record { text = lookup_text (lookup t m 0 address); memory = m }) × (calls_of (request line) ≡ [])
   unfolding line_reply reply calls_of
   find_written address asks = (rw asks, rw asks)
 
   -- An unreadable line is told that it is one, and leaves them so too.
-  pub unreadable_written : request line ≡ Unreadable → (line_reply t m line ≡ record { text = unreadable; memory = m }) × (calls_of (request line) ≡ [])
+  pub unreadable_written : request line ≡ None → (line_reply t m line ≡ record { text = unreadable; memory = m }) × (calls_of (request line) ≡ [])
   unfolding line_reply reply calls_of
   unreadable_written asks = (rw asks, rw asks)
 
@@ -124,11 +126,11 @@ module _ {t : Settings} {calls : List Call} {answers : List ℕ} {m : Memory} (h
     accepted_exactly call asks = (λ ok. sym (number_exactly call asks 0 ok), λ none. numbers_written call asks ∙ ap update_text none)
 
     -- Only an unreadable line is told that it is.
-    pub unreadable_exactly : (line_reply t m line).text ≡ unreadable → request line ≡ Unreadable
+    pub unreadable_exactly : (line_reply t m line).text ≡ unreadable → request line ≡ None
     unreadable_exactly h = only_unreadable t routes (request line) (sym (text_on_paper history line) ∙ h)
 
   -- A line that asks for an address.
-  module _ (line : List ℕ) (address : ℕ) (asks : request line ≡ Find address) where
+  module _ (line : List ℕ) (address : ℕ) (asks : request line ≡ Some (Find address)) where
     word : address < 2 ^ 32
     word = rw asks at (request_words line)
 
@@ -160,7 +162,7 @@ module _ {t : Settings} {calls : List Call} {answers : List ℕ} {m : Memory} (h
         → (r : Route) × Longest address its_routes r × (hop ≡ r.hop) × (length ≡ r.length) × (probes ≡ probes_down_to t routes address r.length)
     route_exactly hop length probes h = go (longest address its_routes) (right address its_routes)
       where
-        go : (o : Option Route) → Right address its_routes o
+        go : (o : math.Option Route) → Right address its_routes o
             → (r : Route) × Longest address its_routes r × (hop ≡ r.hop) × (length ≡ r.length) × (probes ≡ probes_down_to t routes address r.length)
         go none no_match = absurd (route_not_none _ _ _ _ (sym h ∙ none_written no_match))
         go (some r) best = let tells = route_tells _ _ _ _ _ _ (sym h ∙ longest_written r best) in (r, best, tells.0, tells.1, tells.2)
@@ -169,12 +171,12 @@ module _ {t : Settings} {calls : List Call} {answers : List ℕ} {m : Memory} (h
     pub none_exactly : (probes : ℕ) → (line_reply t m line).text ≡ none_text probes → NoMatch address its_routes × (probes ≡ probes_down_to t routes address 0)
     none_exactly probes h = go (longest address its_routes) (right address its_routes)
       where
-        go : (o : Option Route) → Right address its_routes o → NoMatch address its_routes × (probes ≡ probes_down_to t routes address 0)
+        go : (o : math.Option Route) → Right address its_routes o → NoMatch address its_routes × (probes ≡ probes_down_to t routes address 0)
         go none no_match = (no_match, none_tells _ _ (sym h ∙ none_written no_match))
         go (some r) best = absurd (route_not_none _ _ _ _ (sym (longest_written r best) ∙ h))
 
   -- A line that adds a stored route of party 0's again, with a hop that is valid.
-  module _ (line : List ℕ) (r : Route) (stands : Stored r its_routes) (hop : ℕ) (high : hop ≤ 65535) (asks : request line ≡ Add r.prefix r.length hop) where
+  module _ (line : List ℕ) (r : Route) (stands : Stored r its_routes) (hop : ℕ) (high : hop ≤ 65535) (asks : request line ≡ Some (Add r.prefix r.length hop)) where
     its : Stored r routes × (r.party ≡ 0)
     its = own_stored 0 routes stands
 
@@ -192,7 +194,7 @@ module _ {t : Settings} {calls : List Call} {answers : List ℕ} {m : Memory} (h
         more_routes_on_paper history next ∙ rw ((accepted_exactly line (Call-as-Add 0 r.prefix r.length hop) (rw asks)).0 replacing_written)
 
     -- A find of an address of which the route is the longest match is then answered the new hop, and the probes as before.
-    pub replacing_found : (next : List ℕ) (address : ℕ) → request next ≡ Find address → Longest address its_routes r
+    pub replacing_found : (next : List ℕ) (address : ℕ) → request next ≡ Some (Find address) → Longest address its_routes r
         → (line_reply t (line_reply t m line).memory next).text ≡ route_text hop r.length (probes_down_to t routes address r.length)
     unfolding line_reply reply updated act
     replacing_found next address finds best =

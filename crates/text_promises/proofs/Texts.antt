@@ -4,16 +4,18 @@ use Prim.Native.Nat.{ℕ, zero, suc, ◌+◌, ◌*◌, ◌/◌, ◌%◌, ◌<◌
 use mathlib.Core.Path.{◌≡◌, refl, sym, ap, ◌∙◌}
 use mathlib.Core.Bool.{Bool, true, false, cond}
 use mathlib.Core.List.{List, [], ◌∷◌, ◌++◌, append_assoc, append_cancel_left}
-use mathlib.Core.Option.{Option, some, none}
+use mathlib.Core.Option.{some, none}
+use mathlib.Core.Option as math
 use native.Mathlib.Omega.{arith}
 use lib.ListN.{get_or, drop}
 use lib.Dec.{ltb, eqb}
 use borrow.Author.Tests.{lt-ltb, le-leb, ltb-true, ltb-false, eqb-true}
+use Rattle.std.specs.Prelude.{Option, Some, None}
 use Rattle.rules.specs.declared.Settings.{Settings}
 use Rattle.rules.specs.Tools.{within}
 use Rattle.text_spelling.specs.Spelling.{spelled}
 use Rattle.text_requests.specs.declared.Request.{Request}
-use Rattle.text_requests.specs.declared.Request.TheVariants.{Add, Drop, Move, Find, Unreadable}
+use Rattle.text_requests.specs.declared.Request.TheVariants.{Add, Drop, Move, Find}
 use Rattle.text_requests.specs.Shapes.{digit, digits, value}
 use Rattle.text_answers.specs.Texts.{last_digits, decimal, refused_text, update_text, route_text, none_text, unreadable}
 use Rattle.text_answers.proofs.Decimals.{decimal_first}
@@ -47,18 +49,18 @@ update_not_unreadable n e = go (eqb n 0) (ap first e)
     go true h = omega arith
     go false h = omega arith
 
-find_not_unreadable : (t : Settings) (routes : List Route) (address : ℕ) (o : Option Route) → find_text t routes address o ≡ unreadable → ⊥
+find_not_unreadable : (t : Settings) (routes : List Route) (address : ℕ) (o : math.Option Route) → find_text t routes address o ≡ unreadable → ⊥
 unfolding find_text none_text
 find_not_unreadable t routes address (some r) e = route_not_unreadable _ _ _ e
 find_not_unreadable t routes address none e = omega (arith, ap first e)
 
-pub only_unreadable : (t : Settings) (routes : List Route) (r : Request) → text_by t routes r ≡ unreadable → r ≡ Unreadable
+pub only_unreadable : (t : Settings) (routes : List Route) (r : Option Request) → text_by t routes r ≡ unreadable → r ≡ None
 unfolding text_by
-only_unreadable t routes (Add p L hop) e = absurd (update_not_unreadable _ e)
-only_unreadable t routes (Drop p L) e = absurd (update_not_unreadable _ e)
-only_unreadable t routes (Move p L hop) e = absurd (update_not_unreadable _ e)
-only_unreadable t routes (Find address) e = absurd (find_not_unreadable t routes address (longest address (routes_of 0 routes)) e)
-only_unreadable t routes Unreadable e = refl
+only_unreadable t routes (Some (Add p L hop)) e = absurd (update_not_unreadable _ e)
+only_unreadable t routes (Some (Drop p L)) e = absurd (update_not_unreadable _ e)
+only_unreadable t routes (Some (Move p L hop)) e = absurd (update_not_unreadable _ e)
+only_unreadable t routes (Some (Find address)) e = absurd (find_not_unreadable t routes address (longest address (routes_of 0 routes)) e)
+only_unreadable t routes None e = refl
 
 -- ---- The numbers in a text
 

@@ -5,10 +5,11 @@ use mathlib.Core.Path.{◌≡◌, refl}
 use mathlib.Core.Bool.{Bool, true, ◌&&◌}
 use mathlib.Core.List.{List, [], ◌∷◌, ◌++◌}
 use lib.ListN.{replicate}
+use Rattle.std.specs.Prelude.{Option, Some, None}
 use Rattle.rules.specs.Tools.{within}
 use Rattle.text_spelling.specs.Spelling.{spelled, same_bytes}
 use Rattle.text_requests.specs.declared.Request.{Request}
-use Rattle.text_requests.specs.declared.Request.TheVariants.{Add, Drop, Move, Find, Unreadable}
+use Rattle.text_requests.specs.declared.Request.TheVariants.{Add, Drop, Move, Find}
 use Rattle.text_requests.specs.Shapes.{digit, front_digit, digits, value, begins_with_number, number_at, no_numbers, set_octet, set_length, set_hop, item, items, fit_shape, request}
 
 -- an address by its four octets
@@ -16,25 +17,25 @@ abbrev ip : (a b c d : ℕ) → ℕ
 ip a b c d = a * 2 ^ 24 + b * 2 ^ 16 + c * 2 ^ 8 + d
 
 -- a request as numbers
-abbrev figures : Request → List ℕ
-figures (Add p L hop) = 1 ∷ p ∷ L ∷ hop ∷ []
-figures (Drop p L) = 2 ∷ p ∷ L ∷ []
-figures (Move p L hop) = 3 ∷ p ∷ L ∷ hop ∷ []
-figures (Find address) = 4 ∷ address ∷ []
-figures Unreadable = []
+abbrev figures : Option Request → List ℕ
+figures (Some (Add p L hop)) = 1 ∷ p ∷ L ∷ hop ∷ []
+figures (Some (Drop p L)) = 2 ∷ p ∷ L ∷ []
+figures (Some (Move p L hop)) = 3 ∷ p ∷ L ∷ hop ∷ []
+figures (Some (Find address)) = 4 ∷ address ∷ []
+figures None = []
 
 -- a line, and what it asks for
 record Case : Type 0 where
   line : List ℕ
-  asks : Request
+  asks : Option Request
 
 abbrev case : (line : String) (asks : Request) → Case
-case line asks = record { line = spelled line; asks = asks }
+case line asks = record { line = spelled line; asks = Some asks }
 
 -- none of these lines can be read
 abbrev unreadable : List String → List Case
 unreadable [] = []
-unreadable (line ∷ lines) = case line Unreadable ∷ unreadable lines
+unreadable (line ∷ lines) = record { line = spelled line; asks = None } ∷ unreadable lines
 
 abbrev come_out : List Case → Bool
 come_out [] = true
@@ -73,9 +74,9 @@ worked =
     ∷ "ADD 10.0.0.0/8 7"
     ∷ "find O.O.O.O"
     ∷ [])
-    ++ record { line = spelled "find 1.2.3.4" ++ replicate 52 32; asks = Unreadable }
-    ∷ record { line = spelled "find 1.2.3.4" ++ replicate 53 32; asks = Unreadable }
-    ∷ record { line = spelled "find 1.2.3.4" ++ 0 ∷ []; asks = Unreadable }
+    ++ record { line = spelled "find 1.2.3.4" ++ replicate 52 32; asks = None }
+    ∷ record { line = spelled "find 1.2.3.4" ++ replicate 53 32; asks = None }
+    ∷ record { line = spelled "find 1.2.3.4" ++ 0 ∷ []; asks = None }
     ∷ []
 
 pub worked_lines : come_out worked ≡ true

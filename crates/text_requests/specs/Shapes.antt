@@ -1,15 +1,12 @@
 -- The lines of the text program, as docs/TABLE.md describes them. A line is a list of bytes.
-use Rattle.std.specs.Prelude.{ℕ, ◌+◌, ◌-◌, ◌*◌, ◌%◌, ◌^◌, Bool, cond, not, ◌&&◌, ◌||◌, List, [], ◌∷◌, length, get_or, drop, ltb, leb, eqb}
+use Rattle.std.specs.Prelude.{ℕ, ◌+◌, ◌-◌, ◌*◌, ◌%◌, ◌^◌, Bool, cond, not, ◌&&◌, ◌||◌, List, [], ◌∷◌, length, get_or, drop, ltb, leb, eqb, Option, Some, None}
+use Rattle.std.specs.Bool.{then_some}
 use Prim.Native.Char.{code}
 use Rattle.rules.specs.Tools.{within}
 use Rattle.text_spelling.specs.Spelling.{spelled}
-use Rattle.text_requests.specs.declared.Number.{Number}
-use Rattle.text_requests.specs.declared.Number.TheVariants.{To as Number-as-To, Absent}
 use Rattle.text_requests.specs.declared.Numbers.{Numbers}
-use Rattle.text_requests.specs.declared.Fit.{Fit}
-use Rattle.text_requests.specs.declared.Fit.TheVariants.{To, Other}
 use Rattle.text_requests.specs.declared.Request.{Request}
-use Rattle.text_requests.specs.declared.Request.TheVariants.{Add, Drop, Move, Find, Unreadable}
+use Rattle.text_requests.specs.declared.Request.TheVariants.{Add, Drop, Move, Find}
 
 -- ---- Numbers
 
@@ -38,12 +35,12 @@ begins_with_number bytes most =
     let ds = digits bytes in
     leb (value 0 ds) most && (ltb 0 (length ds) && (eqb (length ds) 1 || not (eqb (front_digit bytes) 0)))
 
--- the number of at most so much that stands at a position of a line
-unfoldable pub number_at : (line : List ℕ) (at most : ℕ) → Number
+-- the number of at most so much that stands at a position of a line, and the position after it
+unfoldable pub number_at : (line : List ℕ) (at most : ℕ) → Option (ℕ × ℕ)
 number_at line at most =
     let bytes = drop at line in
     let ds = digits bytes in
-    cond (begins_with_number bytes most) (Number-as-To (value 0 ds) (at + length ds)) Absent
+    then_some (begins_with_number bytes most) (value 0 ds, at + length ds)
 
 -- ---- Shapes
 
@@ -63,31 +60,31 @@ set_length ns n = record { address = ns.address; length = n; hop = ns.hop }
 unfoldable pub set_hop : Numbers → ℕ → Numbers
 set_hop ns n = record { address = ns.address; length = ns.length; hop = n }
 
--- a number that stands there fits, and is put in
-abbrev pub put_in : Number → (ℕ → Numbers) → Fit
-put_in (Number-as-To n end) with = To end (with n)
-put_in Absent with = Other
+-- a number that stands there fits, and is put in: the numbers with it, and the position after it
+abbrev pub put_in : Option (ℕ × ℕ) → (ℕ → Numbers) → Option (Numbers × ℕ)
+put_in (Some (n, end)) with = Some (with n, end)
+put_in None with = None
 
 -- what an item of a shape finds at a position: O an octet, to 255; L a length, of up to two digits; H a hop, within 32 bits; any other byte itself
-unfoldable pub item : (shape : ℕ) (line : List ℕ) (at : ℕ) → Numbers → Fit
+unfoldable pub item : (shape : ℕ) (line : List ℕ) (at : ℕ) → Numbers → Option (Numbers × ℕ)
 item shape line at ns =
     cond (eqb shape (code "O")) (put_in (number_at line at 255) (set_octet ns))
     (cond (eqb shape (code "L")) (put_in (number_at line at 99) (set_length ns))
     (cond (eqb shape (code "H")) (put_in (number_at line at (2 ^ 32 - 1)) (set_hop ns))
-    (cond (ltb at (length line) && eqb (get_or line at 0) shape) (To (at + 1) ns) Other)))
+    (then_some (ltb at (length line) && eqb (get_or line at 0) shape) (ns, at + 1))))
 
 -- where an item fits, the rest of the shape goes on after it
-abbrev pub if_fits : Fit → (ℕ → Numbers → Fit) → Fit
-if_fits (To end ns) rest = rest end ns
-if_fits Other rest = Other
+abbrev pub if_fits : Option (Numbers × ℕ) → (ℕ → Numbers → Option Numbers) → Option Numbers
+if_fits (Some (ns, end)) rest = rest end ns
+if_fits None rest = None
 
 -- items of a shape, one after the other from a position to the line's end
-unfoldable pub items : (shape line : List ℕ) (at : ℕ) → Numbers → Fit
-items [] line at ns = cond (eqb at (length line)) (To at ns) Other
+unfoldable pub items : (shape line : List ℕ) (at : ℕ) → Numbers → Option Numbers
+items [] line at ns = then_some (eqb at (length line)) ns
 items (s ∷ shape) line at ns = if_fits (item s line at ns) (items shape line)
 
--- the line has the shape, from its first byte to its last
-unfoldable pub fit_shape : (shape line : List ℕ) → Fit
+-- the numbers of a line that has the shape, from its first byte to its last
+unfoldable pub fit_shape : (shape line : List ℕ) → Option Numbers
 fit_shape shape line = items shape line 0 no_numbers
 
 -- ---- Lines
@@ -109,15 +106,15 @@ abbrev pub find_shape : List ℕ
 find_shape = spelled "find O.O.O.O"
 
 -- what a line of this shape asks for; else the other
-abbrev pub asks : Fit → (Numbers → Request) → Request → Request
-asks (To end ns) request other = request ns
-asks Other request other = other
+abbrev pub asks : Option Numbers → (Numbers → Request) → Option Request → Option Request
+asks (Some ns) request other = Some (request ns)
+asks None request other = other
 
--- what a line asks for
-unfoldable pub request : (line : List ℕ) → Request
+-- what a line asks for; a line of another shape asks for nothing
+unfoldable pub request : (line : List ℕ) → Option Request
 request line =
-    cond (ltb 64 (length line)) Unreadable
+    cond (ltb 64 (length line)) None
     (asks (fit_shape add_shape line) (λ ns. Add ns.address ns.length ns.hop)
     (asks (fit_shape drop_shape line) (λ ns. Drop ns.address ns.length)
     (asks (fit_shape move_shape line) (λ ns. Move ns.address ns.length ns.hop)
-    (asks (fit_shape find_shape line) (λ ns. Find ns.address) Unreadable))))
+    (asks (fit_shape find_shape line) (λ ns. Find ns.address) None))))

@@ -3,14 +3,10 @@ use native.Mathlib.Omega.{arith}
 use mathlib.Core.Path.{ap}
 use mathlib.Core.Bool.{not}
 use Rattle.rules.specs.Table.{mark_word}
-use Rattle.rules.proofs.Placing.{ranges}
 use Rattle.buckets.proofs.Slots.{is_lent}
 use Rattle.buckets.proofs.Passes.{met_none, met_all, met_free, met_other, met_here}
 use Rattle.buckets.proofs.search_bucket.Goals as goal
 use Rattle.buckets.proofs.search_bucket.Goals.{then-not-is_occupied, else-not-is_occupied}
-
-pub first_slot-first-requires : goal.first_slot-first-requires
-first_slot-first-requires c = c.requires.ready
 
 pub loop-s-init : goal.loop-s-init
 loop-s-init c = met_none
@@ -20,7 +16,7 @@ unfolding mark_word
 overflow_add-slot c = omega (arith, is_lent _ _ _ _ _ _ c.first_slot-first.ensures c.requires.ready c.requires.slots c.loop-s-test.true)
 
 pub holds_at-requires : goal.holds_at-requires
-holds_at-requires c = record { slot_in_bounds = is_lent _ _ _ _ _ _ c.first_slot-first.ensures c.requires.ready c.requires.slots c.loop-s-test.true; party_bound = c.requires.party_bound }
+holds_at-requires c = is_lent _ _ _ _ _ _ c.first_slot-first.ensures c.requires.ready c.requires.slots c.loop-s-test.true
 
 pub returns-then-holds_at : goal.returns-then-holds_at
 returns-then-holds_at c =
@@ -28,9 +24,6 @@ returns-then-holds_at c =
 
 pub mark_at-requires : goal.mark_at-requires
 mark_at-requires c = is_lent _ _ _ _ _ _ c.first_slot-first.ensures c.requires.ready c.requires.slots c.loop-s-test.true
-
-pub overflow_add-s : goal.overflow_add-s
-overflow_add-s c = omega (arith, ranges _ c.requires.ready.range)
 
 pub loop-s-preserved : goal.loop-s-preserved
 loop-s-preserved c =
@@ -40,7 +33,7 @@ loop-s-preserved c =
     let occupied = c.is_occupied.ensures in
     elim c.if-not-is_occupied.branch [
       | then-not-is_occupied w ↦
-          rw (w.vacancy-is, w.first_of-vacancy.ensures) (met_free inv c.loop-s-test.true from found c.if-holds_at.false c.mark_at.ensures occupied (ap not w.if-not-is_occupied.true))
+          rw (w.vacancy-is, w.or-vacancy.ensures) (met_free inv c.loop-s-test.true from found c.if-holds_at.false c.mark_at.ensures occupied (ap not w.if-not-is_occupied.true))
       | else-not-is_occupied w ↦
           rw w.vacancy-is (met_other inv c.loop-s-test.true from found c.if-holds_at.false c.mark_at.ensures occupied (ap not w.if-not-is_occupied.false))
     ]

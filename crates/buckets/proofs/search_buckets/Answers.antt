@@ -1,45 +1,28 @@
 -- Two invariants carry it, `Between` of the lengths and `Below` of the slots, on the words as they are lent.
 use native.Mathlib.Omega.{arith}
 use Rattle.rules.specs.Table.{mark_word}
-use Rattle.rules.proofs.Placing.{ranges}
-use Rattle.buckets.proofs.Searching.{begun, ended, opened, inside, passed, next, here, less}
+use Rattle.buckets.proofs.Searching.{ended, opened, inside, passed, next, here}
 use Rattle.buckets.proofs.search_buckets.Goals as goal
 
-pub lengths-init : goal.lengths-init
-lengths-init c = begun (omega arith)
-
-pub turn_of-turn-requires : goal.turn_of-turn-requires
-turn_of-turn-requires c = record { settings_value = c.requires.settings_value; some_left = c.lengths-test.true }
-
 pub loop-s-init : goal.loop-s-init
-loop-s-init c = opened c.lengths.invariant.nothing
+loop-s-init g c = opened c.lengths.invariant.nothing
 
 pub overflow_add-slot : goal.overflow_add-slot
 unfolding mark_word
-overflow_add-slot c = omega (arith, inside c.turn_of-turn.ensures c.requires.settings_value c.requires.slots c.loop-s-test.true)
+overflow_add-slot g c = omega (arith, inside c.turn_of-turn.ensures c.requires.settings_value c.requires.slots c.loop-s-test.true, g.met.T.Cell.fewer_words c.args.slots.now)
 
 pub holds_at-requires : goal.holds_at-requires
-holds_at-requires c =
-    record {
-      slot_in_bounds = inside c.turn_of-turn.ensures c.requires.settings_value c.requires.slots c.loop-s-test.true;
-      party_bound = c.requires.party_bound;
-    }
-
-pub overflow_add-s : goal.overflow_add-s
-overflow_add-s c = omega (arith, ranges _ c.requires.settings_value)
+holds_at-requires g c = inside c.turn_of-turn.ensures c.requires.settings_value c.requires.slots c.loop-s-test.true
 
 pub loop-s-preserved : goal.loop-s-preserved
-loop-s-preserved c = passed c.turn_of-turn.ensures c.loop-s.invariant c.holds_at.ensures c.if-holds_at.false
-
-pub lengths-smaller : goal.lengths-smaller
-lengths-smaller c = omega (arith, less c.turn_of-turn.ensures)
+loop-s-preserved g c = passed c.turn_of-turn.ensures c.loop-s.invariant c.holds_at.ensures c.if-holds_at.false
 
 pub lengths-preserved : goal.lengths-preserved
-lengths-preserved c = next c.turn_of-turn.ensures c.lengths.invariant c.loop-s.invariant c.loop-s-test.false
+lengths-preserved g c = next c.turn_of-turn.ensures c.lengths.invariant c.loop-s.invariant c.loop-s-test.false
 
 pub returns-after-lengths : goal.returns-after-lengths
-returns-after-lengths c = ended c.lengths.invariant c.lengths-test.false
+returns-after-lengths g c = ended c.lengths.invariant c.lengths-test.false
 
 pub returns-then-holds_at : goal.returns-then-holds_at
-returns-then-holds_at c =
+returns-then-holds_at g c =
     here c.turn_of-turn.ensures c.lengths.invariant c.loop-s.invariant c.loop-s-test.true c.holds_at.ensures c.if-holds_at.true

@@ -3,7 +3,7 @@ use Prim.Native.Nat.{ℕ, suc, ◌-◌, ◌^◌, ◌<◌}
 use mathlib.Core.Path.{◌≡◌}
 use native.Mathlib.Numerals.{unary_clauses}
 use native.Mathlib.Omega.{arith}
-use lib.Count.{count_leading_zeros, leading_top, leading_le}
+use lib.Count.{count_leading_zeros, leading_top}
 use Rattle.rules.proofs.Vectors.{one_bit}
 use Rattle.buckets.specs.Turns.{Highest}
 use Rattle.buckets.proofs.turn_of.Goals as goal
@@ -13,21 +13,6 @@ longest_is v claimed fits =
     let top = leading_top 32 v (omega arith) fits in
     let same : 32 - count_leading_zeros 32 v ≡ suc top.0 = omega arith in
     rw same (record { low = omega arith; high = omega arith; reached = simp unary_clauses top.2; passed = top.3 })
-
-pub overflow_sub-length : goal.overflow_sub-length
-overflow_sub-length c = leading_le 32 _
-
-pub prefix_of-p-requires : goal.prefix_of-p-requires
-prefix_of-p-requires c = (longest_is c.args.lengths c.requires.some_left (omega arith)).high
-
-pub first_slot-first-requires : goal.first_slot-first-requires
-first_slot-first-requires c = record { range = c.requires.settings_value; low = (longest_is c.args.lengths c.requires.some_left (omega arith)).low; high = (longest_is c.args.lengths c.requires.some_left (omega arith)).high }
-
-pub overflow_sub-left : goal.overflow_sub-left
-overflow_sub-left c = (longest_is c.args.lengths c.requires.some_left (omega arith)).low
-
-pub overflow_shl-left : goal.overflow_shl-left
-overflow_shl-left c = omega (arith, longest_is c.args.lengths c.requires.some_left (omega arith))
 
 pub overflow_sub-left-2 : goal.overflow_sub-left-2
 overflow_sub-left-2 c =

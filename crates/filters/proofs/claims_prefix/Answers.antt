@@ -14,14 +14,14 @@ pub returns-then-counters-first-eq0 : goal.returns-then-counters-first-eq0
 unfolding claims nonzero all
 returns-then-counters-first-eq0 c =
     let a = c.args in
-    let next = first_left a.settings a.length (wrap (a.settings.b * a.p)) a.p refl c.product-once.ensures (ranges _ c.requires.ready.range).k_low c.place_of-first.ensures refl in
+    let next = first_left a.settings.now a.length (wrap (a.settings.now.b * a.p)) a.p refl c.product-once.ensures (ranges _ c.requires.ready.range).k_low c.place_of-first.ensures refl in
     sym (ap (nonzero a.counters.now) next ∙ rw c.if-counters-first-eq0.true)
 
 pub loop-init : goal.loop-init
 unfolding claims nonzero all
 loop-init c =
     let a = c.args in
-    let next = first_left a.settings a.length _ a.p c.growth_of-growth.ensures c.product-once.ensures (ranges _ c.requires.ready.range).k_low c.place_of-first.ensures c.grow-g.ensures in
+    let next = first_left a.settings.now a.length _ a.p c.growth_of-growth.ensures c.product-once.ensures (ranges _ c.requires.ready.range).k_low c.place_of-first.ensures c.grow-g.ensures in
     (refl, ap (nonzero a.counters.now) next ∙ rw (lt-ltb 0 _ (pos_of_ne-zero c.if-counters-first-eq0.false)))
 
 pub bounds-counters-place : goal.bounds-counters-place

@@ -1,36 +1,27 @@
 -- The places are those written so far and those that are left: `one_written`.
-use Rattle.std.proofs.Common.{refl, arith, rules}
-use Rattle.rules.proofs.Placing.{ranges, bits_at}
-use Rattle.filters.specs.Visits.{k_places}
+use Rattle.std.proofs.Common.{sym, ◌∙◌, length-take-le, take_at, arith}
+use Rattle.rules.proofs.Placing.{ranges}
 use Rattle.filters.proofs.Hashing.{all_left, one_written, all_written}
 use Rattle.filters.proofs.places_of.Goals as goal
 
-pub loop-step-init : goal.loop-step-init
-loop-step-init c =
+pub slice_bounds-places-end : goal.slice_bounds-places-end
+slice_bounds-places-end c = (ranges _ c.requires.range).k_high
+
+pub slice_bounds-place-items-end : goal.slice_bounds-place-items-end
+slice_bounds-place-items-end c = sym (length-take-le _ _ (ranges _ c.requires.range).k_high)
+
+pub loop-place-init : goal.loop-place-init
+loop-place-init c =
     let a = c.args in
     record {
-      size = refl;
-      ends = all_left a.settings a.length _ a.p c.growth_of-growth.ensures c.product-g.ensures;
-      few = search rules;
+      size = length-take-le _ _ (ranges _ c.requires.range).k_high;
+      ends = all_left a.settings.now a.length _ a.p c.growth_of-growth.ensures c.product-g.ensures;
     }
 
-pub place_of-requires : goal.place_of-requires
-place_of-requires c =
-    record { ready = c.requires; filter = record { begins = c.start_of-start.ensures; its_bits = bits_at _ _ } }
-
-pub offset_bounds-places-step : goal.offset_bounds-places-step
-offset_bounds-places-step c = omega (arith, c.loop-step-test.true, ranges _ c.requires.range)
-
-pub bounds-places-step : goal.bounds-places-step
-bounds-places-step c = omega (arith, c.loop-step-test.true, ranges _ c.requires.range)
-
-pub overflow_step-step : goal.overflow_step-step
-overflow_step-step c = omega (arith, c.loop-step-test.true, ranges _ c.requires.range)
-
-pub loop-step-preserved : goal.loop-step-preserved
-loop-step-preserved c =
-    one_written c.loop-step.invariant c.loop-step-test.true (omega (arith, c.loop-step-test.true, ranges _ c.requires.range)) c.place_of.ensures c.grow-g.ensures
+pub loop-place-preserved : goal.loop-place-preserved
+loop-place-preserved c = one_written c.loop-place.invariant (omega (arith, c.loop-place-test.true, c.loop-place.auto)) c.place_of.ensures c.grow-g.ensures
 
 pub returns : goal.returns
-unfolding k_places
-returns c = record { are = all_written c.loop-step.invariant c.loop-step-test.false }
+returns c =
+    let w = c.loop-place.invariant in
+    take_at _ _ _ w.size ∙ all_written w (omega (arith, c.loop-place-test.false, c.loop-place.auto))

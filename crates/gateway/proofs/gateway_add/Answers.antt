@@ -1,14 +1,10 @@
 -- The number and the memory are those of the table's call.
 use mathlib.Core.Path.{◌∙◌}
 use Rattle.c_calls.proofs.Whole.{add_alike}
-use Rattle.c_numbers.proofs.Fitting.{add_fits}
-use Rattle.gateway.proofs.Crossings.{fits_above, crossed}
+use Rattle.gateway.proofs.Crossings.{crossed}
 use Rattle.gateway.proofs.gateway_add.Goals as goal
-
-pub refusal_part-requires : goal.refusal_part-requires
-refusal_part-requires c = fits_above c.add.ensures (add_fits _ _ _ _ _ _)
 
 pub returns : goal.returns
 returns c =
     let call = c.before in
-    crossed (add_alike _ call.settings_of-settings.ensures _ _ _ _ _ ∙ call.add.ensures) c.refusal_part.ensures
+    crossed (add_alike _ call.settings_of-settings.ensures _ _ _ _ _ ∙ call.add.ensures) c.number_of_outcome.ensures

@@ -1,12 +1,8 @@
 -- The number and the list are those of the comparison.
 use mathlib.Core.Path.{◌∙◌}
 use Rattle.c_calls.proofs.Whole.{first_alike, second_alike}
-use Rattle.c_numbers.proofs.Fitting.{differences_fit}
-use Rattle.gateway.proofs.Crossings.{comparison_fits_above, comparison_crossed}
+use Rattle.gateway.proofs.Crossings.{comparison_crossed}
 use Rattle.gateway.proofs.gateway_list_differences.Goals as goal
-
-pub number_of_differences-requires : goal.number_of_differences-requires
-number_of_differences-requires c = comparison_fits_above c.difference_in_bytes.ensures (differences_fit _ _ _ _ _ _ _ _)
 
 pub returns : goal.returns
 returns c =
@@ -14,4 +10,4 @@ returns c =
     let made = call.before in
     comparison_crossed
     (first_alike _ made.settings_of-first.ensures _ _ _ _ _ _ _ ∙ second_alike _ made.settings_of-second.ensures _ _ _ _ _ _ _ ∙ call.difference_in_bytes.ensures)
-    c.number_of_differences.ensures
+    c.number_of_word.ensures.count

@@ -1,10 +1,11 @@
 -- What is left decides, after the hop that was found: `Reading`.
-use Prim.Native.Nat.{ℕ, ◌+◌}
+use Prim.Native.Nat.{ℕ, ◌+◌, ◌-◌}
 use mathlib.Core.List.{List}
-use mathlib.Core.Path.{◌≡◌, sym, ap, ◌∙◌}
+use mathlib.Core.Path.{◌≡◌, sym, ap}
 use native.Mathlib.Omega.{arith}
-use Rattle.message_format.specs.Format.{two_bytes}
 use borrow.Author.Rules.{rules}
+use Rattle.std.proofs.lemmas.Result.{err_from_is_err_and}
+use Rattle.message_format.specs.Format.{two_bytes}
 use Rattle.import_format.specs.Routes.{after_entry, entry_attributes}
 use Rattle.import_format.proofs.Entries.{entry_later}
 use Rattle.import_readers.proofs.Entries.{first_of, begun, ended, left_over, over, broken, goes_on}
@@ -15,30 +16,34 @@ ends : (bytes : List ℕ) (at size : ℕ) → size ≡ two_bytes bytes (at + 6) 
 unfolding after_entry entry_attributes
 ends bytes at size e = ap (λ (size : ℕ). at + 8 + size) e
 
-pub loop-left-init : goal.loop-left-init
-loop-left-init c = begun _ _ _ _ c.requires
+pub loop-init : goal.loop-init
+loop-init c = let all : c.args.many - 0 ≡ c.args.many = omega arith in rw all (begun _ _ _ _ c.requires)
+
+pub overflow_sub-bytes : goal.overflow_sub-bytes
+overflow_sub-bytes c = c.loop.invariant.inside
 
 pub returns-then-bytes-at-lt8 : goal.returns-then-bytes-at-lt8
 returns-then-bytes-at-lt8 c =
-    sym (over c.loop-left.invariant c.loop-left-test.true (omega (arith, entry_later c.args.bytes.now c.loop-left.at, c.if-bytes-at-lt8.true)))
+    sym (over c.loop.invariant (omega (arith, c.loop-test.true)) (omega (arith, entry_later c.args.bytes.now c.loop.at, c.if-bytes-at-lt8.true)))
 
 pub returns-then-bytes-attributes : goal.returns-then-bytes-attributes
 returns-then-bytes-attributes c =
-    sym (over c.loop-left.invariant c.loop-left-test.true (omega (arith, ends _ _ _ c.two_bytes-size.ensures, c.if-bytes-attributes.true)))
+    sym (over c.loop.invariant (omega (arith, c.loop-test.true)) (omega (arith, ends _ _ _ c.two_bytes-size.ensures, c.if-bytes-attributes.true)))
 
-pub returns-in_default : goal.returns-in_default
-returns-in_default c =
-    sym (broken c.loop-left.invariant c.loop-left-test.true (ends _ _ _ c.two_bytes-size.ensures) (sym c.read_hop.ensures ∙ c.in_default.is))
+pub returns-in_err-next_hop : goal.returns-in_err-next_hop
+returns-in_err-next_hop c =
+    let handed = err_from_is_err_and c.from_residual.result c.from_residual.ensures.1 in
+    rw (handed.1, handed.2) (sym (broken c.loop.invariant (omega (arith, c.loop-test.true)) (ends _ _ _ c.two_bytes-size.ensures) (sym c.in_err-next_hop.ensures)))
 
-pub loop-left-preserved : goal.loop-left-preserved
+pub loop-preserved : goal.loop-preserved
 unfolding first_of
-loop-left-preserved c =
-    goes_on c.loop-left.invariant c.loop-left-test.true (ends _ _ _ c.two_bytes-size.ensures) (omega (arith, c.if-bytes-attributes.false))
-    (sym c.read_hop.ensures ∙ c.in-Good.is)
-    (search rules)
+loop-preserved c =
+    let fewer : c.args.many - (c.loop.counter + 1) ≡ c.args.many - c.loop.counter - 1 = omega arith in
+    rw fewer (goes_on c.loop.invariant (omega (arith, c.loop-test.true)) (ends _ _ _ c.two_bytes-size.ensures) (omega (arith, c.if-bytes-attributes.false)) (sym c.in_ok-next_hop.ensures)
+    (search rules))
 
 pub returns-then-at-bytes : goal.returns-then-at-bytes
-returns-then-at-bytes c = sym (left_over c.loop-left.invariant c.loop-left-test.false c.if-at-bytes.true)
+returns-then-at-bytes c = sym (left_over c.loop.invariant (omega (arith, c.loop-test.false)) c.if-at-bytes.true)
 
 pub returns : goal.returns
-returns c = sym (ended c.loop-left.invariant c.loop-left-test.false c.if-at-bytes.false)
+returns c = sym (ended c.loop.invariant (omega (arith, c.loop-test.false)) c.if-at-bytes.false)

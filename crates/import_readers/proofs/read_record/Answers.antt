@@ -1,73 +1,84 @@
 -- Each return is a law of proofs/Records.antt.
 use Prim.Native.Nat.{ℕ, ◌+◌}
-use mathlib.Core.Path.{◌≡◌, refl, sym, ap, ◌∙◌}
+use mathlib.Core.Path.{◌≡◌, sym, ap, ◌∙◌}
 use mathlib.Core.List.{List}
 use native.Mathlib.Omega.{arith}
 use lib.ListN.{length}
-use Rattle.message_format.specs.Format.{two_bytes, prefix_from, after_prefix}
-use Rattle.message_cursors.specs.declared.Prefixes.{Prefixes}
-use Rattle.message_cursors.specs.declared.NextPrefix.{NextPrefix}
-use Rattle.message_cursors.specs.declared.NextPrefix.TheVariants as next
-use Rattle.message_cursors.specs.Steps.{next_prefix}
-use Rattle.message_cursors.proofs.Steps.{Moved, told}
+use Rattle.std.specs.Prelude.{Option, Some, None, Result, Ok, Err}
+use Rattle.std.proofs.lemmas.Result.{err_from_is_err_and}
+use Rattle.rules.specs.declared.Refusal.{Refusal}
+use Rattle.rules.specs.declared.Refusal.TheVariants.{Malformed}
+use Rattle.message_format.specs.Format.{two_bytes, prefix_from, prefix_fits, after_prefix}
+use Rattle.message_cursors.specs.declared.PrefixRead.{PrefixRead}
+use Rattle.message_cursors.specs.Steps.{next_prefix, read_prefix}
+use Rattle.message_cursors.proofs.Steps.{Moved, prefix_told}
 use Rattle.import_format.specs.Routes.{route_from, entries_count, entries_from}
-use Rattle.import_readers.specs.declared.EntriesRead.{EntriesRead}
-use Rattle.import_readers.specs.declared.EntriesRead.TheVariants as entries_reads
-use Rattle.import_readers.specs.declared.RecordRead.TheVariants as read
 use Rattle.import_readers.specs.Records.{entries_read, record_read}
 use Rattle.import_readers.proofs.Records.{with_entries, no_prefix, prefix_unfit, prefix_inside, no_count, by_entries}
 use Rattle.import_readers.proofs.read_record.Goals as goal
-use Rattle.import_readers.proofs.read_record.Goals.{In-Prefix}
 
--- no prefix was read
-fault : (bytes hops : List ℕ) (answer : NextPrefix) → next_prefix bytes (record { at = 16; end = length bytes }) ≡ answer
-    → ((p L : ℕ) (rest : Prefixes) → answer ≡ next.Prefix p L rest → ⊥) → record_read bytes hops ≡ read.Fault
-fault bytes hops (next.Prefix p L rest) is other = absurd (other p L rest refl)
-fault bytes hops next.End is other = no_prefix _ _ (told _ _ (omega arith) is)
-fault bytes hops next.Fault is other = prefix_unfit _ _ (told _ _ (omega arith) is).1
+-- where the prefix that was read ends
+ends : (bytes : List ℕ) {read : PrefixRead} → read ≡ read_prefix bytes (record { at = route_from; end = length bytes }) → read.rest.at ≡ after_prefix bytes route_from
+unfolding read_prefix
+ends bytes is = ap (λ (read : PrefixRead). read.rest.at) is
 
--- the prefix that was read
-moved : (c : In-Prefix) → let bytes = c.args.bytes.now in
-    Moved bytes (record { at = route_from; end = length bytes }) c.in-Prefix.prefix c.in-Prefix.length c.in-Prefix.rest
-moved c = told _ _ (omega arith) (sym c.next.ensures ∙ c.in-Prefix.is)
-
--- where it ends
-ends : (c : In-Prefix) → c.in-Prefix.rest.at ≡ after_prefix c.args.bytes.now route_from
-ends c = ap (λ (rest : Prefixes). rest.at) (moved c).now_at
+-- and what it is
+own : (bytes : List ℕ) {read : PrefixRead} → read ≡ read_prefix bytes (record { at = route_from; end = length bytes })
+    → (read.prefix ≡ (prefix_from bytes route_from).prefix) × (read.length ≡ (prefix_from bytes route_from).length)
+unfolding read_prefix
+own bytes is = (ap (λ (read : PrefixRead). read.prefix) is, ap (λ (read : PrefixRead). read.length) is)
 
 -- the record, by its entries
-by_read : (c : In-Prefix) {count : ℕ} {entries : EntriesRead} → let a = c.args in let at = c.in-Prefix.rest.at in
-    count ≡ two_bytes a.bytes.now at → entries ≡ entries_read a.bytes.now (at + 2) count a.hops.now
-    → record_read a.bytes.now a.hops.now ≡ with_entries (prefix_from a.bytes.now route_from) entries
+by_read : (bytes hops : List ℕ) {read : PrefixRead} {entries : Result (Option ℕ) Refusal} {count : ℕ}
+    → Moved (record { at = route_from; end = length bytes }) (prefix_fits bytes route_from (length bytes)) (read_prefix bytes (record { at = route_from; end = length bytes })) read
+    → count ≡ two_bytes bytes read.rest.at → entries ≡ entries_read bytes (read.rest.at + 2) count hops
+    → record_read bytes hops ≡ with_entries (prefix_from bytes route_from) entries
 unfolding entries_from entries_count
-by_read c counted is = by_entries _ _ (moved c).fits ∙ ap (with_entries _) (sym (rw (counted, ends c) at is))
+by_read bytes hops moved counted is = by_entries _ _ moved.fits ∙ ap (with_entries _) (sym (rw (counted, ends bytes moved.read) at is))
+
+module _ (bytes : List ℕ) {first : Option PrefixRead} (given : Ok first ≡ next_prefix bytes (record { at = 16; end = length bytes })) where
+  -- a prefix was read
+  moved : {read : PrefixRead} → first ≡ Some read
+      → Moved (record { at = route_from; end = length bytes }) (prefix_fits bytes route_from (length bytes)) (read_prefix bytes (record { at = route_from; end = length bytes })) read
+  moved is = prefix_told bytes (record { at = 16; end = length bytes }) (omega arith) (sym given ∙ ap Ok is)
+
+  -- nothing is there
+  missing : (hops : List ℕ) → first ≡ None → record_read bytes hops ≡ Err Malformed
+  missing hops is = no_prefix _ _ (prefix_told bytes (record { at = 16; end = length bytes }) (omega arith) (sym given ∙ ap Ok is))
+
+pub returns-in_err-read : goal.returns-in_err-read
+returns-in_err-read c =
+    let handed = err_from_is_err_and c.from_residual.result c.from_residual.ensures.1 in
+    let told = prefix_told _ (record { at = 16; end = length c.args.bytes.now }) (omega arith) (sym c.in_err-read.ensures) in
+    rw (handed.1, handed.2, told.0) (sym (prefix_unfit _ _ told.1.1))
 
 pub returns-in_default : goal.returns-in_default
-returns-in_default c = sym (fault _ _ c.next.result (sym c.next.ensures) c.in_default.not-Prefix)
+returns-in_default c = sym (missing _ c.in_ok-read.ensures _ c.in_default.is)
 
 pub overflow_sub-bytes : goal.overflow_sub-bytes
-overflow_sub-bytes c = rw (ends c) (prefix_inside _ (moved c).fits)
+overflow_sub-bytes c =
+    let m = moved _ c.in_ok-read.ensures c.in-Some.is in
+    rw (ends _ m.read) (prefix_inside _ m.fits)
 
 pub returns-then-bytes-after-lt2 : goal.returns-then-bytes-after-lt2
 returns-then-bytes-after-lt2 c =
-    let prefix = (goal.at.returns-then-bytes-after-lt2 c).In-Prefix in
-    sym (no_count _ _ (omega (arith, ends prefix, prefix_inside _ (moved prefix).fits, c.if-bytes-after-lt2.true)))
+    let m = moved _ c.in_ok-read.ensures c.in-Some.is in
+    sym (no_count _ _ (omega (arith, ends _ m.read, prefix_inside _ m.fits, c.if-bytes-after-lt2.true)))
 
-pub returns-in-At : goal.returns-in-At
+pub returns-in_err-hop : goal.returns-in_err-hop
 unfolding with_entries
-returns-in-At c =
-    let prefix = (goal.at.returns-in-At c).In-Prefix in
-    rw ((moved prefix).prefix, (moved prefix).length)
-    (sym (by_read prefix c.two_bytes.ensures c.read_entries.ensures ∙ ap (with_entries _) (c.in-Good.is ∙ ap entries_reads.Good c.in-At.is)))
+returns-in_err-hop c =
+    let handed = err_from_is_err_and c.from_residual-in_err-hop.result c.from_residual-in_err-hop.ensures.1 in
+    rw (handed.1, handed.2) (sym (by_read _ _ (moved _ c.in_ok-read.ensures c.in-Some.is) c.two_bytes.ensures c.in_err-hop.ensures))
 
-pub returns-in-Missing : goal.returns-in-Missing
+pub returns-in_default-2 : goal.returns-in_default-2
 unfolding with_entries
-returns-in-Missing c =
-    let prefix = (goal.at.returns-in-Missing c).In-Prefix in
-    sym (by_read prefix c.two_bytes.ensures c.read_entries.ensures ∙ ap (with_entries _) (c.in-Good.is ∙ ap entries_reads.Good c.in-Missing.is))
+returns-in_default-2 c =
+    sym (by_read _ _ (moved _ c.in_ok-read.ensures c.in-Some.is) c.two_bytes.ensures c.in_ok-hop.ensures ∙ ap (λ hop. with_entries (prefix_from c.args.bytes.now route_from) (Ok hop)) c.in_default-2.is)
 
-pub returns-in-Fault : goal.returns-in-Fault
+pub returns : goal.returns
 unfolding with_entries
-returns-in-Fault c =
-    let prefix = (goal.at.returns-in-Fault c).In-Prefix in
-    sym (by_read prefix c.two_bytes.ensures c.read_entries.ensures ∙ ap (with_entries _) c.in-Fault.is)
+returns c =
+    let m = moved _ c.in_ok-read.ensures c.in-Some.is in
+    let is = own _ m.read in
+    rw (is.0, is.1) (sym (by_read _ _ m c.two_bytes.ensures c.in_ok-hop.ensures ∙ ap (λ hop. with_entries (prefix_from c.args.bytes.now route_from) (Ok hop)) c.in-Some-2.is))

@@ -5,7 +5,7 @@ use Rattle.lookup_answers.proofs.answer_route.Goals as goal
 
 pub overflow_sub-result : goal.overflow_sub-result
 unfolding own
-overflow_sub-result c = rw c.first_mark.ensures (within_true _ _ _ c.requires.mark_value).0
+overflow_sub-result c = rw c.first_mark.ensures (within_true _ _ _ c.requires).0
 
 pub returns : goal.returns
 unfolding route_answer hop_of

@@ -1,51 +1,41 @@
 -- Each step is a law of proofs/Going.antt.
 use mathlib.Core.Path.{refl, sym, ap, ◌∙◌}
-use native.Mathlib.Nat.{suc-ne-zero}
-use borrow.Author.Rules.{rules}
-use Rattle.message_cursors.specs.Steps.{prefix_number}
-use Rattle.message_cursors.proofs.Steps.{told}
-use Rattle.message_calls.proofs.Going.{goes, few_yet, goes_less, goes_on, turns, all_done, no_fault, checked}
+use native.Mathlib.Omega.{arith}
+use Rattle.std.specs.Prelude.{Ok}
+use Rattle.rules.proofs.Numbers.{party_low}
+use Rattle.message_calls.specs.Walks.{accepted_as}
+use Rattle.message_calls.proofs.Going.{both_lie, both_same, begins, goes, all_done, room_yet, goes_less, goes_on, checked, turns, no_fault}
 use Rattle.message_calls.proofs.apply_parts.Goals as goal
 
-pub loop-prefix-init : goal.loop-prefix-init
-loop-prefix-init c = (rw c.none_counted-counts.ensures (goes c.requires.apart), refl, refl)
+pub loop-task-init : goal.loop-task-init
+loop-task-init c = begins _ _ _ _ _ (grind arith) (both_lie c.requires.apart c.args.hop)
 
-pub apply_task-number-requires : goal.apply_task-number-requires
-apply_task-number-requires c =
-    let at = c.loop-prefix.invariant in
-    let moved = told _ _ at.0.inside (sym c.in-Prefix.ensures) in
-    record {
-      checked = checked moved c.requires.settings_value (at.1 ∙ c.requires.counters.size) (at.2 ∙ c.requires.slots.size) c.requires.party_bound;
-      hop_fits = at.0.hop_good;
-    }
+pub loop-read-init : goal.loop-read-init
+loop-read-init c = goes _ _ _ _ _ c.loop-task.invariant _ c.loop-task-test.true
 
-pub count-counts-requires : goal.count-counts-requires
-count-counts-requires c =
-    let at = c.loop-prefix.invariant in
-    few_yet c.requires.apart at.0 (told _ _ at.0.inside (sym c.in-Prefix.ensures))
+pub returns-in_err-read : goal.returns-in_err-read
+returns-in_err-read c = absurd (no_fault _ _ _ _ _ c.loop-read.invariant (sym c.in_err-read.ensures))
 
-pub loop-prefix-smaller-in-Prefix : goal.loop-prefix-smaller-in-Prefix
-loop-prefix-smaller-in-Prefix c =
-    let at = c.loop-prefix.invariant in
-    goes_less c.requires.apart at.0 (told _ _ at.0.inside (sym c.in-Prefix.ensures))
+pub apply-outcome-requires : goal.apply-outcome-requires
+apply-outcome-requires c =
+    let read_so = sym c.in_ok-read.ensures ∙ ap Ok c.in-Some.is in
+    let r = c.requires in
+    checked _ _ _ _ _ c.loop-read.invariant read_so r.settings_value (cc) (cc) (party_low c.args.party)
 
-pub loop-prefix-preserved-in-Prefix : goal.loop-prefix-preserved-in-Prefix
-loop-prefix-preserved-in-Prefix c =
-    let at = c.loop-prefix.invariant in
-    (goes_on c.requires.apart at.0 (told _ _ at.0.inside (sym c.in-Prefix.ensures)) c.apply_task-number.ensures c.count-counts.ensures, search rules, search rules)
+pub with-counts-requires : goal.with-counts-requires
+with-counts-requires c =
+    room_yet _ _ _ _ _ c.loop-read.invariant (sym c.in_ok-read.ensures ∙ ap Ok c.in-Some.is) c.requires.apart.short
 
-pub returns-in-Add : goal.returns-in-Add
-returns-in-Add c =
-    let at = c.loop-prefix.invariant in
-    all_done c.requires.apart at.0 (told _ _ at.0.inside (sym c.in-End.ensures)) c.in-Add.is
+pub loop-read-smaller : goal.loop-read-smaller
+loop-read-smaller c = goes_less _ _ _ _ _ c.loop-read.invariant (sym c.in_ok-read.ensures ∙ ap Ok c.in-Some.is)
 
-pub loop-prefix-preserved : goal.loop-prefix-preserved
-loop-prefix-preserved c =
-    let at = c.loop-prefix.invariant in
-    (turns c.requires.apart at.0 (told _ _ at.0.inside (sym c.in-End.ensures)) c.in_default.is c.requires.hop_bound, at.1, at.2)
+pub loop-read-preserved : goal.loop-read-preserved
+loop-read-preserved c =
+    goes_on _ _ _ _ _ c.loop-read.invariant (sym c.in_ok-read.ensures ∙ ap Ok c.in-Some.is) c.apply-outcome.ensures c.with-counts.ensures
 
-pub returns-in-Fault : goal.returns-in-Fault
-unfolding prefix_number
-returns-in-Fault c =
-    let at = c.loop-prefix.invariant in
-    absurd (suc-ne-zero 11 (sym (ap prefix_number (sym c.in-Fault.ensures)) ∙ no_fault c.requires.apart at.0))
+pub loop-task-preserved : goal.loop-task-preserved
+loop-task-preserved c = turns _ _ _ _ _ c.loop-read.invariant _ refl (sym c.in_ok-read.ensures ∙ ap Ok c.in_default.is)
+
+pub returns : goal.returns
+returns c =
+    ap accepted_as (rw (both_same _ _ _ _ _) (all_done _ _ _ _ _ c.loop-task.invariant c.loop-task-test.false))

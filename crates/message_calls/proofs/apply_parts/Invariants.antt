@@ -1,14 +1,18 @@
--- The calls that are left do what all of them do: `Going`.
-use Prim.Native.Nat.{◌-◌}
-use mathlib.Core.Path.{◌≡◌}
-use lib.ListN.{length}
+-- The calls that are left do what all of them do: of the parts from one on, `Turning`, and within a part, `Going`.
+use Prim.Native.Nat.{◌+◌, ◌-◌}
+use lib.ListN.{drop}
+use Rattle.rules.specs.Numbers.{party_number}
 use Rattle.rules.specs.Table.{lent}
-use Rattle.message_calls.proofs.Going.{Going}
+use Rattle.message_calls.proofs.Going.{Turning, Going}
 use Rattle.message_calls.proofs.apply_parts.Given as goal
 
-abbrev pub invariant-loop-prefix : goal.invariant-loop-prefix
-invariant-loop-prefix l =
-    Going l.settings l.party l.message l.initial.rest l.announced l.hop (lent l.initial.counters l.initial.slots) l.task l.rest l.counts (lent l.counters l.slots) × (length l.counters ≡ length l.initial.counters) × (length l.slots ≡ length l.initial.slots)
+abbrev pub invariant-loop-task : goal.invariant-loop-task
+invariant-loop-task l =
+    Turning l.settings (party_number l.party) l.message (lent l.fn.counters l.fn.slots) l.task-items l.task-index l.counts (lent l.counters l.slots)
 
-abbrev pub decreases-loop-prefix : goal.decreases-loop-prefix
-decreases-loop-prefix l = length l.message - l.rest.at
+abbrev pub invariant-loop-read : goal.invariant-loop-read
+invariant-loop-read l =
+    Going l.settings (party_number l.party) l.message (lent l.fn.counters l.fn.slots) l.task-items (drop (l.task-index + 1) l.task-items) l.task l.rest l.counts (lent l.counters l.slots)
+
+abbrev pub decreases-loop-read : goal.decreases-loop-read
+decreases-loop-read l = l.rest.end - l.rest.at

@@ -3,8 +3,8 @@ use Prim.Native.Nat.{◌-◌}
 use Rattle.message_readers.proofs.Parts.{Looking}
 use Rattle.message_readers.proofs.read_hop.Given as goal
 
-abbrev pub invariant-loop-kind : goal.invariant-loop-kind
-invariant-loop-kind l = Looking l.bytes l.from l.to l.rest l.found
+abbrev pub invariant-loop-read : goal.invariant-loop-read
+invariant-loop-read l = Looking l.bytes l.from l.to l.rest l.found
 
-abbrev pub decreases-loop-kind : goal.decreases-loop-kind
-decreases-loop-kind l = l.to - l.rest.at
+abbrev pub decreases-loop-read : goal.decreases-loop-read
+decreases-loop-read l = l.to - l.rest.at

@@ -61,5 +61,7 @@ unfolding write_withdrawal writing_refusal refuse listed longest octets
 returns c =
     let short = c.if-length-gt32.false in
     let tight = tight_so _ _ c.prefix_of.ensures c.if-prefix_of-p.false in
+    let first : c.args.p / 2 ^ 24 % 2 ^ 8 ≡ c.args.p / 2 ^ 24 = omega arith in
     rw (le-ltb _ _ short, tight, eq-eqb _ _ (c.if-room-size.false ∙ size _ c.bytes_for-count.ensures))
-    (ap (answered 0) (copied _ _ short tight (omega arith) _ c.bytes_for-count.ensures c.copy_from_slice.ensures.after))
+    (ap (answered 0) (copied _ _ short tight (omega arith) _ c.bytes_for-count.ensures
+    (rw (c.copy_from_slice.ensures.after, c.copy_from_slice-2.ensures.after, c.to_be_bytes.ensures, first) at c.copy_from_slice-3.ensures.after)))

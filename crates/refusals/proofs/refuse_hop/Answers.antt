@@ -1,11 +1,13 @@
 -- 5 comes after the checks of the route, which are passed on by `route_passing`.
-use mathlib.Core.Path.{◌∙◌, sym}
-use Rattle.rules.proofs.Refusals.{route_passing, stopped, let_by}
+use mathlib.Core.Path.{refl, ◌∙◌, sym}
+use Rattle.std.proofs.lemmas.Result.{err_from_is_err_and}
+use Rattle.rules.proofs.Refusals.{route_passing, handed_on, let_by}
 use Rattle.refusals.proofs.refuse_hop.Goals as goal
 
-pub returns-then-refusal-ne0 : goal.returns-then-refusal-ne0
-returns-then-refusal-ne0 c = stopped (route_passing _ _ _ _ _) c.refuse_route-refusal.ensures c.if-refusal-ne0.true _
+pub returns-in_err-refuse_route-clause-refusal : goal.returns-in_err-refuse_route-clause-refusal
+returns-in_err-refuse_route-clause-refusal c = handed_on (route_passing _ _ _ _ _) (err_from_is_err_and _ c.from_residual.ensures.1) c.in_err-refuse_route.ensures.refusal _
 
-pub returns : goal.returns
-returns c =
-    c.refuse_high.ensures ∙ sym (let_by (route_passing _ _ _ _ _) c.refuse_route-refusal.ensures c.if-refusal-ne0.false _)
+pub returns-in_err-refuse_high-clause-refusal : goal.returns-in_err-refuse_high-clause-refusal
+returns-in_err-refuse_high-clause-refusal c =
+    let p = err_from_is_err_and c.from_residual-in_err-refuse_high.result c.from_residual-in_err-refuse_high.ensures.1 in
+    rw (p.1, p.2) (c.in_err-refuse_high.ensures.refusal ∙ sym (let_by (route_passing _ _ _ _ _) c.in_ok-refuse_route.ensures.refusal refl _))

@@ -1,49 +1,54 @@
 -- What the record holds, and then what its UPDATE was answered, carries each return: laws of proofs/Records.antt.
-use Prim.Native.Nat.{ℕ}
 use mathlib.Core.Path.{◌≡◌, refl, sym, ◌∙◌}
-use mathlib.Core.List.{List}
-use lib.Seq.{length-take-le}
+use borrow.Author.Rules.{rules}
+use Rattle.std.specs.Prelude.{None, Some, Ok, Err}
+use Rattle.rules.specs.declared.Refusal.TheVariants.{Hopless}
+use Rattle.rules.proofs.Numbers.{party_low}
 use Rattle.rules.proofs.Refusals.{fits}
-use Rattle.replay_readers.specs.declared.Held.{Held}
 use Rattle.replay_readers.specs.Held.{record_held}
-use Rattle.replay_readers.proofs.Records.{HeldTold, held_told}
+use Rattle.replay_readers.proofs.Records.{held_told}
 use Rattle.replay_calls.proofs.Records.{its_message, other_done, short_done, update_applied, update_hopless, update_fault}
 use Rattle.replay_calls.proofs.replay_record.Goals as goal
 
-pub slice_bounds-bytes-end : goal.slice_bounds-bytes-end
-slice_bounds-bytes-end c = sym (length-take-le c.args.size c.args.room.now c.requires.size_in_bounds)
+pub returns-in_err-at : goal.returns-in_err-at
+returns-in_err-at c =
+    let given : c.from_residual.result ≡ Err c.in_err-at.field-0.0 = search rules in
+    rw given (short_done _ _ _ _ _ _ (sym c.read_record.ensures ∙ c.in_err-at.was) refl)
 
--- what the record holds
-holds : (bytes : List ℕ) {answer which : Held} → answer ≡ record_held bytes → answer ≡ which → HeldTold bytes which
-holds bytes held is = held_told _ (sym held ∙ is)
+pub returns-in_default : goal.returns-in_default
+returns-in_default c =
+    let none : c.read_record.result ≡ Ok None = rw c.in_default.is at c.in_ok-at.was in
+    other_done _ _ _ _ _ _ (sym c.read_record.ensures ∙ none) refl
 
 pub slice_bounds-apply_update-count : goal.slice_bounds-apply_update-count
-slice_bounds-apply_update-count c = (holds _ c.read_record.ensures c.in-Update.is).inside
+slice_bounds-apply_update-count c =
+    let some : c.read_record.result ≡ Ok (Some c.in-Some.at) = rw c.in-Some.is at c.in_ok-at.was in
+    (held_told c.args.bytes.now (sym c.read_record.ensures ∙ some)).inside
 
 pub slice_bounds-apply_update-start : goal.slice_bounds-apply_update-start
-slice_bounds-apply_update-start c = (holds _ c.read_record.ensures c.in-Update.is).inside
+slice_bounds-apply_update-start c =
+    let some : c.read_record.result ≡ Ok (Some c.in-Some.at) = rw c.in-Some.is at c.in_ok-at.was in
+    (held_told c.args.bytes.now (sym c.read_record.ensures ∙ some)).inside
 
-pub returns-in-Good : goal.returns-in-Good
-returns-in-Good c =
+pub returns-in-Ok : goal.returns-in-Ok
+returns-in-Ok c =
     let pre = c.requires in
-    let update = holds _ c.read_record.ensures c.in-Update.is in
+    let some : c.read_record.result ≡ Ok (Some c.in-Some.at) = rw c.in-Some.is at c.in_ok-at.was in
+    let update : record_held c.args.bytes.now ≡ Ok (Some c.in-Some.at) = sym c.read_record.ensures ∙ some in
     update_applied _ _ _ _ _ _ update
     (fits _ _ _ (record { range = pre.settings_value; counters_fit = pre.counters.size; slots_fit = pre.slots.size }) 0)
-    pre.party_bound
-    (rw (c.in-Good.is, its_message _ update) at c.apply_update.ensures)
+    (party_low _)
+    (rw (c.in-Ok.is, its_message _ update) at c.apply_update.ensures)
 
-pub returns-in-Hopless : goal.returns-in-Hopless
-returns-in-Hopless c =
-    let update = holds _ c.read_record.ensures c.in-Update.is in
-    update_hopless _ _ _ _ _ _ update (rw (c.in-Hopless.is, its_message _ update) at c.apply_update.ensures) c.only_seen.ensures
+pub returns-in-Err-Hopless : goal.returns-in-Err-Hopless
+returns-in-Err-Hopless c =
+    let some : c.read_record.result ≡ Ok (Some c.in-Some.at) = rw c.in-Some.is at c.in_ok-at.was in
+    let update : record_held c.args.bytes.now ≡ Ok (Some c.in-Some.at) = sym c.read_record.ensures ∙ some in
+    update_hopless _ _ _ _ _ _ update (rw (c.in-Err-Hopless.is, c.in-Err-Hopless.field-0-is, its_message _ update) at c.apply_update.ensures)
 
-pub returns-in-Fault-apply_update : goal.returns-in-Fault-apply_update
-returns-in-Fault-apply_update c =
-    let update = holds _ c.read_record.ensures c.in-Update.is in
-    update_fault _ _ _ _ _ _ update (rw (c.in-Fault-apply_update.is, its_message _ update) at c.apply_update.ensures)
-
-pub returns-in-Other : goal.returns-in-Other
-returns-in-Other c = other_done _ _ _ _ _ _ (holds _ c.read_record.ensures c.in-Other.is) c.only_seen-in-Other.ensures refl
-
-pub returns-in-Fault : goal.returns-in-Fault
-returns-in-Fault c = short_done _ _ _ _ _ _ (holds _ c.read_record.ensures c.in-Fault.is) refl
+pub returns-in-Err : goal.returns-in-Err
+returns-in-Err c =
+    let some : c.read_record.result ≡ Ok (Some c.in-Some.at) = rw c.in-Some.is at c.in_ok-at.was in
+    let update : record_held c.args.bytes.now ≡ Ok (Some c.in-Some.at) = sym c.read_record.ensures ∙ some in
+    let other : c.in-Err.refusal ≡ Hopless → ⊥ = search rules in
+    update_fault _ _ _ _ _ _ update other (rw (c.in-Err.is, its_message _ update) at c.apply_update.ensures)

@@ -7,6 +7,6 @@ pub returns-then-two_bytes-eq1 : goal.returns-then-two_bytes-eq1
 unfolding family_from as_size
 returns-then-two_bytes-eq1 c = rw (← c.two_bytes.ensures, c.if-two_bytes-eq1.true)
 
-pub returns : goal.returns
+pub returns-else-two_bytes-eq1 : goal.returns-else-two_bytes-eq1
 unfolding family_from as_size
-returns c = rw (← c.two_bytes.ensures, ne_eqb _ _ c.if-two_bytes-eq1.false)
+returns-else-two_bytes-eq1 c = rw (← c.two_bytes.ensures, ne_eqb _ _ c.if-two_bytes-eq1.false)

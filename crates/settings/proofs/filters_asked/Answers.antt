@@ -1,17 +1,19 @@
 -- The list is read from its front: what was read is good so far, and its powers are summed.
 use Prim.Native.Nat.{ℕ, ◌+◌, ◌*◌, ◌%◌, ◌^◌, ◌≤◌, ◌<◌}
 use mathlib.Core.Path.{◌≡◌, refl, sym, ap, ◌∙◌}
-use mathlib.Core.Bool.{Bool, true, ◌&&◌, and_assoc}
+use mathlib.Core.Bool.{Bool, true, false, ◌&&◌}
 use mathlib.Core.List.{List, [], ◌∷◌}
 use native.Mathlib.Nat.{mod-eq_of_lt, mod-lt}
 use native.Mathlib.Numerals.{add-one}
 use native.Mathlib.Omega.{arith}
-use lib.Dec.{eqb, leb}
-use lib.ListN.{length, get_or, take, length-map, get_or-map}
+use lib.Dec.{eqb}
+use lib.ListN.{length, get_or, length-map, get_or-map}
 use lib.Pow.{pow_mono}
 use lib.Seq.{take_all}
 use borrow.Author.Rules.{rules}
 use borrow.Author.Tests.{eq-eqb}
+use Rattle.std.specs.Prelude.{Some}
+use Rattle.std.specs.Bool.{then_some}
 use Rattle.rules.specs.Tools.{within, all}
 use Rattle.rules.specs.Table.{list_in_range, filters_size}
 use Rattle.rules.proofs.Members.{both, within_true, all_more}
@@ -28,84 +30,63 @@ kept (D ∷ d) h =
     let below : D < 16 = omega (arith, (within_true 4 11 D parts.0).1) in
     rw (mod-eq_of_lt below, kept d parts.1)
 
-low_lt : (D : ℕ) → D % 16 < 16
-low_lt D = mod-lt D (omega arith)
-
 -- the power of a D as it is shifted
 abbrev power : ℕ → ℕ
 power D = 1 * 2 ^ (D % 16) % 4294967296
 
+below : (D : ℕ) → D % 16 < 16
+below D = mod-lt D (omega arith)
+
+few : (D : ℕ) → 2 ^ (D % 16) ≤ 2 ^ 15
+few D = pow_mono {j = 15} (omega (arith, below D))
+
 power_is : (D : ℕ) → power D ≡ 2 ^ (D % 16)
 power_is D =
-    let few : 2 ^ (D % 16) ≤ 2 ^ 15 = pow_mono {j = 15} (omega (arith, low_lt D)) in
     let same : 1 * 2 ^ (D % 16) ≡ 2 ^ (D % 16) = omega arith in
-    rw same (mod-eq_of_lt (omega arith))
+    rw same (mod-eq_of_lt (omega (arith, few D)))
 
 -- one more D is read
 one_read : (d : List ℕ) (good : Bool) (counters i : ℕ) → length d ≡ 32 → SoFar d good counters i → i < 32 →
     let D = get_or d i 0 in
-    SoFar d (good && leb 4 D && leb D 11) (counters + power D) (i + 1)
-unfolding within
+    SoFar d (good && within 4 11 D) (counters + power D) (i + 1)
 one_read d good counters i count at less =
     let D = get_or d i 0 in
     let there : i < length d = omega (arith, count) in
-    let few : 2 ^ (D % 16) ≤ 2 ^ 15 = pow_mono {j = 15} (omega (arith, low_lt D)) in
     let as-shifted : get_or (shifts d) i 0 ≡ D % 16 = get_or-map (λ D. D % 16) d i 0 in
     record {
       few = omega arith;
-      each = rw (at.each, add-one i, all_more (within 4 11) d i there, ← and_assoc (all (within 4 11) (take i d)) (leb 4 D) (leb D 11));
+      each = rw (at.each, add-one i, all_more (within 4 11) d i there);
       sum = rw (power_is D, at.sum, ← as-shifted, add-one i) (sym (one_more (shifts d) i (omega (arith, length-map d (λ D. D % 16)))));
-      fits = rw (power_is D) (omega (arith, at.fits));
+      fits = rw (power_is D) (omega (arith, few D, at.fits));
     }
 
-pub loop-i-init : goal.loop-i-init
+pub loop-d-init : goal.loop-d-init
 unfolding filters_size all
-loop-i-init c = record { few = omega arith; each = refl; sum = refl; fits = omega arith }
+loop-d-init c = record { few = omega arith; each = refl; sum = refl; fits = omega arith }
 
-pub bounds-settings-i : goal.bounds-settings-i
-bounds-settings-i c = omega (arith, c.loop-i-test.true)
+pub loop-d-preserved : goal.loop-d-preserved
+unfolding within
+loop-d-preserved c =
+    let at = c.loop-d in
+    let count : length c.args.settings.d ≡ 32 = search rules in
+    let inside : c.contains-good.result ≡ within 4 11 (get_or c.args.settings.d at.d-index 0) = search rules in
+    rw inside (one_read c.args.settings.d at.good at.counters at.d-index count at.invariant (omega arith))
 
-pub overflow_cast-counters : goal.overflow_cast-counters
-overflow_cast-counters c = record { fits = omega (arith, low_lt (get_or c.args.settings.d c.loop-i.i 0)) }
-
-pub overflow_shl-counters : goal.overflow_shl-counters
-overflow_shl-counters c = omega (arith, low_lt (get_or c.args.settings.d c.loop-i.i 0))
-
--- an array has its count
-count : (c : goal.After-d-1) → length c.args.settings.d ≡ 32
-count c = search rules
-
-read : (c : goal.After-d-1) →
-    let at = c.loop-i in
-    let d = c.args.settings.d in
-    let D = get_or d at.i 0 in
-    SoFar d (at.good && leb 4 D && leb D 11) (at.counters + power D) (at.i + 1)
-read c =
-    let at = c.loop-i in
-    one_read c.args.settings.d at.good at.counters at.i (count c) at.invariant (omega (arith, c.loop-i-test.true))
-
-pub overflow_add-counters : goal.overflow_add-counters
-overflow_add-counters c = record { fits = omega (arith, (read c).fits, c.loop-i-test.true) }
-
-pub overflow_step-i : goal.overflow_step-i
-overflow_step-i c = record { fits = omega (arith, c.loop-i-test.true) }
-
-pub loop-i-smaller : goal.loop-i-smaller
-loop-i-smaller c = omega (arith, c.loop-i-test.true)
-
-pub loop-i-preserved : goal.loop-i-preserved
-loop-i-preserved c = read c
+-- where the list is good, what was counted is what it asks
+counted : (good whole : Bool) (counters size : ℕ) → good ≡ whole → (whole ≡ true → counters ≡ size) → then_some good counters ≡ then_some whole size
+counted true true counters size e same = ap Some (same refl)
+counted true false counters size e same = absurd (cc)
+counted false true counters size e same = absurd (cc)
+counted false false counters size e same = refl
 
 pub returns : goal.returns
 unfolding list_in_range
 returns c =
     let d = c.args.settings.d in
-    let at = c.loop-i in
+    let at = c.loop-d in
     let count : length d ≡ 32 = search rules in
-    let long : 32 ≤ at.i = c.loop-i-test.false in
-    let good : at.good ≡ all (within 4 11) d = at.invariant.each ∙ ap (all (within 4 11)) (take_all at.i d (omega arith)) in
-    record {
-      good_value = good ∙ rw (eq-eqb _ _ count);
-      counters_value =
-          (λ in_range. at.invariant.sum ∙ ap filters_size (take_all at.i (shifts d) (omega (arith, length-map d (λ D. D % 16))) ∙ kept d (both (eqb (length d) 32) _ in_range).1) ∙ sym (counters_listed _));
-    }
+    let long : 32 ≤ at.d-index = c.loop-d-test.false in
+    let good : at.good ≡ all (within 4 11) d = at.invariant.each ∙ ap (all (within 4 11)) (take_all at.d-index d (omega arith)) in
+    c.then_some.ensures
+    ∙ counted _ _ _ _ (good ∙ rw (eq-eqb _ _ count))
+    (λ in_range. at.invariant.sum ∙ ap filters_size (take_all at.d-index (shifts d) (omega (arith, length-map d (λ D. D % 16))) ∙ kept d (both (eqb (length d) 32) _ in_range).1) ∙ sym (counters_listed _))

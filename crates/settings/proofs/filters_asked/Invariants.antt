@@ -1,5 +1,5 @@
 -- The list is read from its front: what was read is good so far, and its powers are summed.
-use Prim.Native.Nat.{ℕ, ◌-◌, ◌*◌, ◌%◌, ◌^◌, ◌≤◌}
+use Prim.Native.Nat.{ℕ, ◌*◌, ◌%◌, ◌^◌, ◌≤◌}
 use mathlib.Core.Path.{◌≡◌}
 use mathlib.Core.Bool.{Bool}
 use mathlib.Core.List.{List, map}
@@ -18,8 +18,5 @@ pub record SoFar (d : List ℕ) (good : Bool) (counters i : ℕ) : Type 0 where
   pub sum : counters ≡ filters_size (take i (shifts d))
   pub fits : counters ≤ i * 2 ^ 15
 
-abbrev pub invariant-loop-i : goal.invariant-loop-i
-invariant-loop-i l = SoFar l.settings.d l.good l.counters l.i
-
-abbrev pub decreases-loop-i : goal.decreases-loop-i
-decreases-loop-i l = 32 - l.i
+abbrev pub invariant-loop-d : goal.invariant-loop-d
+invariant-loop-d l = SoFar l.fn.settings.d l.good l.counters l.d-index

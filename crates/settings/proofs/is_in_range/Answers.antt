@@ -1,35 +1,23 @@
--- The four tests stand in the order of `in_range`, so each way out has those before it.
-use mathlib.Core.Path.{◌∙◌, sym}
+-- The tests stand in the order of `in_range`; that of D is given.
+use mathlib.Core.Path.{◌≡◌, ◌∙◌, sym}
+use mathlib.Core.Logic.{inl, inr}
+use Rattle.std.proofs.Common.{zero-le}
+use borrow.Author.Rules.{rules}
+use borrow.Author.Tests.{le-leb, lt-leb}
+use Rattle.rules.specs.Tools.{within}
 use Rattle.rules.specs.Table.{in_range}
 use Rattle.settings.proofs.is_in_range.Goals as goal
+use Rattle.settings.proofs.is_in_range.Goals.{then-contains, else-contains}
 
-pub returns-then-not-is_within : goal.returns-then-not-is_within
-unfolding in_range
-returns-then-not-is_within c = simp (sym c.is_within.ensures ∙ c.if-not-is_within.true)
+pub returns-then-settings-le8 : goal.returns-then-settings-le8
+unfolding in_range within
+returns-then-settings-le8 c =
+    let k : c.contains.result ≡ within 1 8 c.args.settings.k = search rules in
+    let s : c.contains-then-settings-le8.result ≡ within 1 8 c.args.settings.s = search rules in
+    simp (sym k ∙ c.if-settings-le8.true.0, c.requires, le-leb 0 c.args.settings.e zero-le, le-leb _ _ c.if-settings-le8.true.1) s
 
-pub returns-then-not-good : goal.returns-then-not-good
-unfolding in_range
-returns-then-not-good c =
-    simp (
-      sym c.is_within.ensures ∙ c.if-not-is_within.false,
-      sym c.requires ∙ c.if-not-good.true,
-    )
-
-pub returns-then-not-is_within-2 : goal.returns-then-not-is_within-2
-unfolding in_range
-returns-then-not-is_within-2 c =
-    simp (
-      sym c.is_within.ensures ∙ c.if-not-is_within.false,
-      sym c.requires ∙ c.if-not-good.false,
-      sym c.is_within-2.ensures ∙ c.if-not-is_within-2.true,
-    )
-
-pub returns : goal.returns
-unfolding in_range
-returns c =
-    simp (
-      sym c.is_within.ensures ∙ c.if-not-is_within.false,
-      sym c.requires ∙ c.if-not-good.false,
-      sym c.is_within-2.ensures ∙ c.if-not-is_within-2.false,
-    )
-    c.is_within-3.ensures
+pub returns-else-settings-le8 : goal.returns-else-settings-le8
+unfolding in_range within
+returns-else-settings-le8 c =
+    let k : c.contains.result ≡ within 1 8 c.args.settings.k = search rules in
+    elim c.if-contains.branch [ then-contains w ↦ elim c.if-settings-le8.either [ inl h ↦ w.t-4-is ∙ simp (sym k ∙ h.0, c.requires, le-leb 0 c.args.settings.e zero-le, lt-leb _ _ h.1) | inr h ↦ absurd (cc) ] | else-contains w ↦ w.t-4-is ∙ w.if-contains.false ∙ simp (sym k ∙ w.if-contains.false) ]

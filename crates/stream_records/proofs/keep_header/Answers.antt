@@ -1,11 +1,12 @@
--- Twelve bytes are their elements, one after the other, and so they are stored.
-use mathlib.Core.Path.{ap}
-use lib.Seq.{sets}
+use mathlib.Core.Path.{◌≡◌, sym, ap, ◌∙◌}
 use native.Mathlib.Omega.{arith}
-use Rattle.stream_records.proofs.Runs.{elements}
+use lib.ListN.{length}
+use lib.Seq.{length-take-le}
+use Rattle.std.proofs.lemmas.List.Edits.{sets-eq}
 use Rattle.stream_records.proofs.keep_header.Goals as goal
 
 pub returns : goal.returns
 returns c =
     let a = c.args in
-    ap (sets a.room.now 0) (elements 12 a.bytes.now (omega arith))
+    let long : length a.header ≡ 12 = sym (ap length c.copy_from_slice.ensures.after) ∙ (c.copy_from_slice.ensures.len ∙ length-take-le 12 a.room.now (omega arith)) in
+    rw (sets-eq a.header a.room.now 0 (omega arith), c.copy_from_slice.ensures.after, long)

@@ -1,14 +1,18 @@
 -- What the checks refuse the rules refuse; an add that passes them ends as the rules say.
-use mathlib.Core.Path.{◌∙◌, sym}
-use Rattle.rules.proofs.Refusals.{checks_passed}
+use mathlib.Core.Path.{sym}
+use Rattle.std.proofs.lemmas.Result.{err_from_is_err_and}
+use Rattle.rules.proofs.Numbers.{refused_number}
+use Rattle.rules.proofs.Refusals.{add_passing, handed_on, checks_passed}
 use Rattle.rules.proofs.Updates.{add_refused}
 use Rattle.updates.proofs.Checks.{checked}
 use Rattle.table.proofs.add.Goals as goal
 
-pub returns-then-refusal-ne0 : goal.returns-then-refusal-ne0
-returns-then-refusal-ne0 c = add_refused _ _ _ _ _ _ c.if-refusal-ne0.true _ c.refuse_add-refusal.ensures
+pub returns-in_err-party : goal.returns-in_err-party
+returns-in_err-party c =
+    let handed = err_from_is_err_and c.from_residual.result c.from_residual.ensures.1 in
+    add_refused _ _ _ _ _ _ (refused_number handed.1) _ (handed_on (add_passing _ _ _ _ _ _) handed c.in_err-party.ensures.refusal _)
 
 pub add_checked-requires : goal.add_checked-requires
 add_checked-requires c =
-    let f = (checks_passed _ _ _ _ _ _ _ 0 (sym c.refuse_add-refusal.ensures ∙ c.if-refusal-ne0.false)).0 in
-    record { checked = checked f.fitted.route; hop_bound = f.fitted.small; not_odd = f.not_odd }
+    let passed = (checks_passed _ _ _ _ _ _ _ 0 (sym c.in_ok-party.ensures.refusal)).0 in
+    record { checked = rw c.in_ok-party.ensures.known (checked passed.fitted.route); not_odd = passed.not_odd }

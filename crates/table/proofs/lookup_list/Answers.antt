@@ -1,28 +1,36 @@
 -- The checks are those of the rules, and past them the sizes fit.
 use mathlib.Core.Path.{◌∙◌, sym, refl, ap}
-use Rattle.rules.specs.Table.{lookup_list, answered}
+use native.Mathlib.Omega.{arith}
+use Rattle.std.proofs.lemmas.Result.{err_from_is_err_and}
+use Rattle.rules.specs.Table.{lent, lookup_list, answered}
+use Rattle.rules.proofs.Numbers.{refused_number}
+use Rattle.rules.proofs.Refusals.{list_passing, handed_on}
 use Rattle.rules.proofs.Lists.{list_passed, refused_list, accepted_list}
 use Rattle.table.proofs.lookup_list.Goals as goal
 
-pub returns-then-refused-ne0 : goal.returns-then-refused-ne0
+pub returns-in_err-party : goal.returns-in_err-party
 unfolding lookup_list
-returns-then-refused-ne0 c = refused_list _ _ _ (c.refuse_list-refused.ensures _ refl refl) c.if-refused-ne0.true
+returns-in_err-party c =
+    let m = lent c.args.counters.now c.args.slots.now in
+    let handed = err_from_is_err_and c.from_residual.result c.from_residual.ensures.1 in
+    refused_list _ _ _ (handed_on (list_passing _ _ _ _ _) handed (c.in_err-party.ensures.refusal m refl refl) _) (refused_number handed.1)
 
-pub list_in_words-requires : goal.list_in_words-requires
-list_in_words-requires c =
+pub answer_list-requires : goal.answer_list-requires
+answer_list-requires c =
     let a = c.args in
-    let passed = list_passed _ _ _ a.counters.now a.slots.now a.party 0 (sym (c.refuse_list-refused.ensures _ refl refl) ∙ c.if-refused-ne0.false) in
+    let passed = list_passed _ _ _ a.counters.now a.slots.now a.party 0 (sym (c.in_ok-party.ensures.refusal (lent a.counters.now a.slots.now) refl refl)) in
     let fit = passed.0.memory in
     record {
       settings_value = fit.range;
-      d_value = refl;
       counters = record { size = fit.counters_fit };
       slots = record { size = fit.slots_fit };
-      party_bound = passed.0.known;
+      whole = omega arith;
       results_len = passed.1;
     }
 
 pub returns : goal.returns
 unfolding lookup_list
 returns c =
-    accepted_list _ _ _ (c.refuse_list-refused.ensures _ refl refl) c.if-refused-ne0.false ∙ ap (answered 0) (sym c.list_in_words.ensures)
+    let m = lent c.args.counters.now c.args.slots.now in
+    accepted_list _ _ _ (c.in_ok-party.ensures.refusal m refl refl) refl
+    ∙ ap (answered 0) (rw (← c.in_ok-party.ensures.known) (sym c.answer_list.ensures))

@@ -1,13 +1,17 @@
 -- What the checks refuse the rules refuse; a withdrawal that passes them ends as the rules say.
-use mathlib.Core.Path.{◌∙◌, sym}
-use Rattle.rules.proofs.Refusals.{route_passed}
+use mathlib.Core.Path.{sym}
+use Rattle.std.proofs.lemmas.Result.{err_from_is_err_and}
+use Rattle.rules.proofs.Numbers.{refused_number}
+use Rattle.rules.proofs.Refusals.{route_passing, handed_on, route_passed}
 use Rattle.rules.proofs.Updates.{withdraw_refused}
 use Rattle.updates.proofs.Checks.{checked}
 use Rattle.table.proofs.withdraw.Goals as goal
 
-pub returns-then-refusal-ne0 : goal.returns-then-refusal-ne0
-returns-then-refusal-ne0 c = withdraw_refused _ _ _ _ _ _ c.if-refusal-ne0.true c.refuse_route-refusal.ensures
+pub returns-in_err-party : goal.returns-in_err-party
+returns-in_err-party c =
+    let handed = err_from_is_err_and c.from_residual.result c.from_residual.ensures.1 in
+    withdraw_refused _ _ _ _ _ _ (refused_number handed.1) (handed_on (route_passing _ _ _ _ _) handed c.in_err-party.ensures.refusal _)
 
 pub withdraw_checked-requires : goal.withdraw_checked-requires
 withdraw_checked-requires c =
-    checked (route_passed _ _ _ _ _ _ 0 (sym c.refuse_route-refusal.ensures ∙ c.if-refusal-ne0.false)).0
+    rw c.in_ok-party.ensures.known (checked (route_passed _ _ _ _ _ _ 0 (sym c.in_ok-party.ensures.refusal)).0)

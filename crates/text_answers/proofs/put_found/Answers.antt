@@ -1,19 +1,17 @@
 -- `text_answers::put_found` meets its contract: texts put one after the other are one longer text.
 use native.Mathlib.Omega.{arith}
-use borrow.Author.Tests.{eq-eqb, ne_eqb}
+use borrow.Author.Tests.{ne_eqb}
 use lib.ListN.{length-append}
-use Rattle.text_answers.specs.Texts.{route_text, none_text, lookup_text}
+use Rattle.rules.specs.Table.{refused}
+use Rattle.rules.proofs.Numbers.{refusal_nonzero}
+use Rattle.text_answers.specs.Texts.{decimal, route_text, none_text, lookup_text}
+use Rattle.text_spelling.specs.Spelling.{spelled}
 use Rattle.text_answers.proofs.Puts.{put_both}
 use Rattle.text_answers.proofs.put_found.Goals as goal
 
-pub returns-then-answer-ne0 : goal.returns-then-answer-ne0
-unfolding lookup_text
-returns-then-answer-ne0 c = rw (ne_eqb _ _ c.if-answer-ne0.true) c.put_outcome.ensures
-
-pub returns-then-answer : goal.returns-then-answer
+pub returns-in-Some : goal.returns-in-Some
 unfolding lookup_text route_text
-returns-then-answer c =
-    rw (eq-eqb _ _ c.if-answer-ne0.false, c.if-answer.true)
+returns-in-Some c = rw (c.in-Ok.is, c.in-Some.is)
     (record {
       put =
           put_both
@@ -26,11 +24,17 @@ returns-then-answer c =
       short = simp length-append (omega arith);
     })
 
-pub returns : goal.returns
+pub returns-in-None : goal.returns-in-None
 unfolding lookup_text none_text
-returns c =
-    rw (eq-eqb _ _ c.if-answer-ne0.false, c.if-answer.false)
+returns-in-None c =
+    let lookup = c.in-Ok.lookup in
+    let number = c.put_number-end-in-None.ensures in
+    rw (c.in-Ok.is, c.in-None.is)
     (record {
-      put = put_both c.put-probes-2.ensures (put_both c.put_number-end-2.ensures.put c.put-2.ensures);
-      short = simp length-append (omega arith);
+      put = put_both c.put-probes-in-None.ensures (put_both number.put c.put-in-None.ensures);
+      short = omega (arith, number.short, length-append (decimal lookup.probes) (spelled "\n"));
     })
+
+pub returns-in-Err : goal.returns-in-Err
+unfolding lookup_text refused
+returns-in-Err c = rw (c.in-Err.is, ne_eqb _ _ (refusal_nonzero c.in-Err.refusal)) c.put_outcome.ensures

@@ -1,21 +1,24 @@
 -- `text_answers::put_outcome` meets its contract: texts put one after the other are one longer text.
+use mathlib.Core.Path.{sym}
 use native.Mathlib.Omega.{arith}
-use borrow.Author.Tests.{eq-eqb, ne_eqb}
+use borrow.Author.Tests.{ne_eqb}
 use lib.ListN.{length-append}
-use Rattle.text_answers.specs.Texts.{refused_text, update_text}
+use Rattle.rules.proofs.Numbers.{refusal_nonzero}
+use Rattle.text_answers.specs.Texts.{decimal, refused_text, update_text}
+use Rattle.text_spelling.specs.Spelling.{spelled}
 use Rattle.text_answers.proofs.Puts.{put_both}
 use Rattle.text_answers.proofs.put_outcome.Goals as goal
 
-pub returns-then-refusal-eq0 : goal.returns-then-refusal-eq0
+pub returns-in-Ok : goal.returns-in-Ok
 unfolding update_text
-returns-then-refusal-eq0 c = rw (eq-eqb _ _ c.if-refusal-eq0.true) (record { put = c.put.ensures; short = omega arith })
+returns-in-Ok c = rw c.in-Ok.is (record { put = c.put.ensures; short = omega arith })
 
-pub returns : goal.returns
+pub returns-in-Err : goal.returns-in-Err
 unfolding update_text refused_text
-returns c =
+returns-in-Err c =
     let number = c.put_number-end.ensures in
-    rw (ne_eqb _ _ c.if-refusal-eq0.false)
+    rw (c.in-Err.is, ne_eqb _ _ (refusal_nonzero c.in-Err.refusal), sym c.number-number.ensures)
     (record {
-      put = put_both c.put-number.ensures (put_both number.put c.put-2.ensures);
-      short = simp length-append (omega arith);
+      put = put_both c.put-digits.ensures (put_both number.put c.put-in-Err.ensures);
+      short = omega (arith, number.short, length-append (decimal c.number-number.result) (spelled "\n"));
     })

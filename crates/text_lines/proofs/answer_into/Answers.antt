@@ -4,32 +4,32 @@ use Rattle.text_lines.specs.Lines.{reply, line_reply}
 use Rattle.text_lines.proofs.Replies.{by_update, by_lookup}
 use Rattle.text_lines.proofs.answer_into.Goals as goal
 
-pub returns-in-Add : goal.returns-in-Add
+pub returns-in-Some-Add : goal.returns-in-Some-Add
 unfolding line_reply reply
-returns-in-Add c =
-    rw (sym c.in-Add.ensures)
-    (by_update c.add-refusal.ensures c.put_outcome.ensures)
+returns-in-Some-Add c =
+    rw (sym c.in-Some-Add.ensures, c.in-Some-Add.field-0-is)
+    (by_update c.add-outcome.ensures c.put_outcome.ensures)
 
-pub returns-in-Drop : goal.returns-in-Drop
+pub returns-in-Some-Drop : goal.returns-in-Some-Drop
 unfolding line_reply reply
-returns-in-Drop c =
-    rw (sym c.in-Drop.ensures)
-    (by_update c.withdraw-refusal.ensures c.put_outcome-in-Drop.ensures)
+returns-in-Some-Drop c =
+    rw (sym c.in-Some-Drop.ensures, c.in-Some-Drop.field-0-is)
+    (by_update c.withdraw-outcome.ensures c.put_outcome-in-Some-Drop.ensures)
 
-pub returns-in-Move : goal.returns-in-Move
+pub returns-in-Some-Move : goal.returns-in-Some-Move
 unfolding line_reply reply
-returns-in-Move c =
-    rw (sym c.in-Move.ensures)
-    (by_update c.change-refusal.ensures c.put_outcome-in-Move.ensures)
+returns-in-Some-Move c =
+    rw (sym c.in-Some-Move.ensures, c.in-Some-Move.field-0-is)
+    (by_update c.change-outcome.ensures c.put_outcome-in-Some-Move.ensures)
 
-pub returns-in-Find : goal.returns-in-Find
+pub returns-in-Some-Find : goal.returns-in-Some-Find
 unfolding line_reply reply
-returns-in-Find c =
-    rw (sym c.in-Find.ensures)
+returns-in-Some-Find c =
+    rw (sym c.in-Some-Find.ensures, c.in-Some-Find.field-0-is)
     (by_lookup _ c.lookup-found.ensures c.put_found.ensures)
 
-pub returns-in-Unreadable : goal.returns-in-Unreadable
+pub returns-in-None : goal.returns-in-None
 unfolding line_reply reply
-returns-in-Unreadable c =
-    rw (sym c.in-Unreadable.ensures)
+returns-in-None c =
+    rw (sym c.in-None.ensures)
     (record { memory_is = refl; put = c.put_unreadable.ensures })

@@ -1,8 +1,7 @@
 -- `text_lines::answer_line` meets its contract: without room nothing is put, and with it the inner call's contract says all.
-use mathlib.Core.Path.{refl}
+use mathlib.Core.Path.{refl, sym, ◌∙◌}
 use native.Mathlib.Omega.{arith}
 use borrow.Author.Tests.{leb-true}
-use Rattle.std.proofs.Common.{sym, ◌∙◌}
 use Rattle.text_lines.specs.Lines.{answer_fits, answer_line}
 use Rattle.text_lines.proofs.answer_line.Goals as goal
 
@@ -18,13 +17,13 @@ returns-then-not-has_room_at c =
       };
     })
 
-pub answer_into-next-requires : goal.answer_into-next-requires
+pub answer_into-requires : goal.answer_into-requires
 unfolding answer_fits
-answer_into-next-requires c =
+answer_into-requires c =
     leb-true _ _ (sym c.has_room_at.ensures ∙ c.if-not-has_room_at.false)
 
 pub returns : goal.returns
 unfolding answer_line
 returns c =
     rw (sym c.has_room_at.ensures ∙ c.if-not-has_room_at.false)
-    (record { refused_is = refl; replied = c.answer_into-next.ensures })
+    (record { refused_is = refl; replied = c.answer_into.ensures })

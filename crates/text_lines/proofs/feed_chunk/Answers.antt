@@ -1,6 +1,6 @@
 -- `text_lines::feed_chunk` meets its contract: without room the stream stays, and with it the inner call's contract says all.
 use mathlib.Core.Bool.{true}
-use Rattle.std.proofs.Common.{sym, ◌∙◌}
+use mathlib.Core.Path.{sym, ◌∙◌}
 use Rattle.text_lines.specs.Lines.{feed_chunk}
 use Rattle.text_lines.proofs.Rooms.{room_of}
 use Rattle.text_lines.proofs.Streams.{lies_going}

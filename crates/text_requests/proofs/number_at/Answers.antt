@@ -1,72 +1,48 @@
--- `text_requests::number_at` meets its contract. What carries it is the invariant `Read`: the digits passed have written the value, and the next one stands at the end.
-use Prim.Native.Nat.{◌-◌, ◌≤◌, ◌<◌}
+-- `text_requests::number_at` meets its contract. The invariant: the digits passed have written the value.
+use Prim.Native.Nat.{◌<◌}
 use mathlib.Core.Path.{refl, sym, ◌∙◌}
+use mathlib.Core.Logic.{inl, inr}
 use native.Mathlib.Omega.{arith}
-use borrow.Author.Tests.{eq-eqb, ne_eqb, lt-ltb, le-ltb}
-use lib.ListN.{drop}
-use Rattle.text_requests.specs.Shapes.{front_digit}
-use Rattle.text_requests.proofs.Digits.{digit_within, read_more, too_large, read_all}
+use lib.ListN.{length, length-drop}
+use lib.Seq.{take_all}
+use Rattle.std.proofs.lemmas.Bool.Decides.{nat_tests}
+use Rattle.text_requests.specs.Shapes.{value}
+use Rattle.text_requests.proofs.Digits.{number_past, next_byte, read_more, too_large, read_all}
 use Rattle.text_requests.proofs.number_at.Goals as goal
 
-pub loop-next-init : goal.loop-next-init
-loop-next-init c = record {
-  forward = omega arith;
-  next_is = c.digit_at-first.ensures;
-  writes = refl;
-  many = omega arith;
-  small = omega arith;
-}
+pub returns-in_err-bytes : goal.returns-in_err-bytes
+returns-in_err-bytes c =
+    let past : length c.args.line.now < c.args.at = elim c.in_err-bytes.ensures.lookup.0 [ inl h ↦ h | inr h ↦ absurd (omega arith) ] in
+    c.from_residual.ensures ∙ sym (number_past c.args.line.now c.args.at c.args.most past)
 
-pub returns-then-most-value : goal.returns-then-most-value
-returns-then-most-value c =
-    let l = c.loop-next in
-    sym (too_large l.invariant c.loop-next-test.true c.if-most-value.true)
+pub loop-b-init : goal.loop-b-init
+unfolding value
+loop-b-init c =
+    record {
+      bytes_are = c.in_ok-bytes.ensures.lookup.0.2 ∙ take_all _ _ (omega (arith, length-drop c.args.at c.args.line.now));
+      many = c.count_digits-count.ensures;
+      writes = refl;
+    }
 
-pub overflow_add-end : goal.overflow_add-end
-overflow_add-end c =
-    let l = c.loop-next in
-    let a = c.args in
-    let h : front_digit (drop l.end a.line.now) < 10 = omega arith in
-    omega (arith, digit_within a.line.now l.end h)
+pub overflow_sub-b : goal.overflow_sub-b
+overflow_sub-b c = (next_byte c.loop-b.invariant c.loop-b-test.true).0
 
-pub loop-next-smaller : goal.loop-next-smaller
-loop-next-smaller c =
-    let l = c.loop-next in
-    let a = c.args in
-    let h : front_digit (drop l.end a.line.now) < 10 = omega arith in
-    omega (arith, digit_within a.line.now l.end h)
+pub returns-in_err-checked_mul : goal.returns-in_err-checked_mul
+returns-in_err-checked_mul c =
+    c.from_residual-in_err-checked_mul.ensures ∙ sym (too_large c.loop-b.invariant c.loop-b-test.true c.args.most (omega (arith, c.in_err-checked_mul.ensures)))
 
-pub loop-next-preserved : goal.loop-next-preserved
-loop-next-preserved c =
-    read_more c.loop-next.invariant _ c.loop-next-test.true c.if-most-value.false
-    c.digit_at-next.ensures
+pub returns-in_err-value : goal.returns-in_err-value
+returns-in_err-value c =
+    c.from_residual-in_err-value.ensures ∙ sym (too_large c.loop-b.invariant c.loop-b-test.true c.args.most (omega (arith, c.from.ensures, c.in_ok-checked_mul.ensures, c.in_err-value.ensures)))
 
-pub returns-then-end-at : goal.returns-then-end-at
-returns-then-end-at c =
-    let l = c.loop-next in
-    let a = c.args in
-    let none : l.end - a.at ≤ 0 = omega arith in
-    simp (read_all l.invariant c.loop-next-test.false, le-ltb _ _ none)
+pub loop-b-preserved : goal.loop-b-preserved
+loop-b-preserved c = read_more c.loop-b.invariant c.loop-b-test.true c.in_ok-value.value (omega (arith, c.from.ensures))
 
-pub returns-then-digits-eq1 : goal.returns-then-digits-eq1
-returns-then-digits-eq1 c =
-    let l = c.loop-next in
-    let a = c.args in
-    let some : 0 < l.end - a.at = omega arith in
-    simp (read_all l.invariant c.loop-next-test.false, lt-ltb _ _ some, eq-eqb _ _ c.if-digits-eq1.true)
+pub returns-then-value-most : goal.returns-then-value-most
+returns-then-value-most c = sym (read_all c.loop-b.invariant c.args.most c.loop-b-test.false ∙ grind (arith, nat_tests))
 
-pub returns-then-first-eq0 : goal.returns-then-first-eq0
-returns-then-first-eq0 c =
-    let l = c.loop-next in
-    let a = c.args in
-    let some : 0 < l.end - a.at = omega arith in
-    let first = sym c.digit_at-first.ensures in
-    simp (read_all l.invariant c.loop-next-test.false, lt-ltb _ _ some, ne_eqb _ _ c.if-digits-eq1.false, eq-eqb _ _ (first ∙ c.if-first-eq0.true))
+pub returns-then-count-gt1 : goal.returns-then-count-gt1
+returns-then-count-gt1 c = sym (read_all c.loop-b.invariant c.args.most c.loop-b-test.false ∙ grind (arith, nat_tests))
 
 pub returns : goal.returns
-returns c =
-    let l = c.loop-next in
-    let a = c.args in
-    let some : 0 < l.end - a.at = omega arith in
-    let first = sym c.digit_at-first.ensures in
-    simp (read_all l.invariant c.loop-next-test.false, lt-ltb _ _ some, ne_eqb _ _ c.if-digits-eq1.false, ne_eqb _ _ (λ e. c.if-first-eq0.false (sym first ∙ e)))
+returns c = sym (read_all c.loop-b.invariant c.args.most c.loop-b-test.false ∙ grind (arith, nat_tests))

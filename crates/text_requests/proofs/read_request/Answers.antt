@@ -8,31 +8,32 @@ pub returns-then-line-gt64 : goal.returns-then-line-gt64
 unfolding request
 returns-then-line-gt64 c = simp (lt-ltb _ _ c.if-line-gt64.true)
 
-pub returns-in-To : goal.returns-in-To
+pub returns-in-Some : goal.returns-in-Some
 unfolding request
-returns-in-To c =
+returns-in-Some c =
     simp
-    (le-ltb _ _ c.if-line-gt64.false, sym c.in-To.ensures)
+    (le-ltb _ _ c.if-line-gt64.false, sym c.in-Some.ensures)
 
-pub returns-in-To-fit_shape : goal.returns-in-To-fit_shape
+pub returns-in-Some-fit_shape : goal.returns-in-Some-fit_shape
 unfolding request
-returns-in-To-fit_shape c =
+returns-in-Some-fit_shape c =
     simp
-    (le-ltb _ _ c.if-line-gt64.false, sym c.in_default.ensures, sym c.in-To-fit_shape.ensures)
+    (le-ltb _ _ c.if-line-gt64.false, sym c.in_default.ensures, sym c.in-Some-fit_shape.ensures)
 
-pub returns-in-To-fit_shape-2 : goal.returns-in-To-fit_shape-2
+pub returns-in-Some-fit_shape-2 : goal.returns-in-Some-fit_shape-2
 unfolding request
-returns-in-To-fit_shape-2 c =
+returns-in-Some-fit_shape-2 c =
     simp
-    (le-ltb _ _ c.if-line-gt64.false, sym c.in_default.ensures, sym c.in_default-fit_shape.ensures, sym c.in-To-fit_shape-2.ensures)
+    (le-ltb _ _ c.if-line-gt64.false, sym c.in_default.ensures, sym c.in_default-fit_shape.ensures, sym c.in-Some-fit_shape-2.ensures)
 
-pub returns-in-To-fit_shape-3 : goal.returns-in-To-fit_shape-3
+pub returns-in_err-found : goal.returns-in_err-found
 unfolding request
-returns-in-To-fit_shape-3 c =
+returns-in_err-found c =
     simp
-    (le-ltb _ _ c.if-line-gt64.false, sym c.in_default.ensures, sym c.in_default-fit_shape.ensures, sym c.in_default-fit_shape-2.ensures, sym c.in-To-fit_shape-3.ensures)
+    (c.from_residual.ensures, le-ltb _ _ c.if-line-gt64.false, sym c.in_default.ensures, sym c.in_default-fit_shape.ensures, sym c.in_default-fit_shape-2.ensures, sym c.in_err-found.ensures)
 
 pub returns : goal.returns
 unfolding request
 returns c =
-    simp (le-ltb _ _ c.if-line-gt64.false, sym c.in_default.ensures, sym c.in_default-fit_shape.ensures, sym c.in_default-fit_shape-2.ensures, sym c.in_default-fit_shape-3.ensures)
+    simp
+    (le-ltb _ _ c.if-line-gt64.false, sym c.in_default.ensures, sym c.in_default-fit_shape.ensures, sym c.in_default-fit_shape-2.ensures, sym c.in_ok-found.ensures)

@@ -1,5 +1,5 @@
 -- Prefix, bit and filter go down with the length: `prefix_next` and `filter_next`.
-use Prim.Native.Nat.{ℕ, suc, ◌-◌, ◌%◌, ◌^◌, ◌≤◌}
+use Prim.Native.Nat.{ℕ, suc, ◌-◌, ◌%◌, ◌^◌}
 use mathlib.Core.Path.{◌≡◌}
 use mathlib.Core.Bool.{Bool}
 use mathlib.Core.List.{List}
@@ -13,7 +13,6 @@ claimed t counters address L = claims t counters (prefix address L) L
 
 -- what stands where the turn of a length comes; length 0 comes after the last one, and its bit is past the 32
 pub record Turn (t : Settings) (counters : List ℕ) (address vector p bit start length : ℕ) : Type 0 where
-  pub few : length ≤ 32
   pub cut : p ≡ prefix address length
   pub its_bit : bit ≡ 2 ^ (32 - length) % 2 ^ 32
   pub ends : start ≡ filter_start t (suc length)
@@ -21,6 +20,3 @@ pub record Turn (t : Settings) (counters : List ℕ) (address vector p bit start
 
 abbrev pub invariant-loop-length : goal.invariant-loop-length
 invariant-loop-length l = Turn l.settings l.counters l.address l.vector l.p l.bit l.start l.length
-
-abbrev pub decreases-loop-length : goal.decreases-loop-length
-decreases-loop-length l = l.length

@@ -1,0 +1,73 @@
+-- A list into which differences are put one after the other: those that were put, and those that are left.
+use Prim.Native.Nat.{ℕ, ◌+◌, ◌*◌, ◌≤◌}
+use mathlib.Core.Path.{◌≡◌, refl, sym, ap, ◌∙◌}
+use mathlib.Core.List.{List, [], ◌∷◌, ◌++◌, append_assoc, append-nil}
+use native.Mathlib.Nat.{zero-add, mul-add, mul-one, mul-le-mul_left, le_trans}
+use native.Mathlib.Omega.{arith}
+use lib.ListN.{length, length-append}
+use lib.Seq.{sets, length-sets}
+use Rattle.words.proofs.Stores.{sets_append}
+use Rattle.difference_rules.specs.declared.Difference.{Difference}
+use Rattle.difference_rules.specs.Comparing.{difference_words, over}
+use Rattle.difference_rules.proofs.Few.{four_words}
+use Rattle.difference_calls.proofs.Ends.{stored_over}
+
+-- the words of one after the words of the other
+words_append : (one other : List Difference) → difference_words (one ++ other) ≡ difference_words one ++ difference_words other
+unfolding difference_words
+words_append [] other = refl
+words_append (d ∷ one) other = rw (words_append one other)
+
+no_words : difference_words [] ≡ []
+unfolding difference_words
+no_words = refl
+
+-- so many of all were put, from the list's front on, and the others are left
+pub record Listed {A : Type 0} (cells : List ℕ → List A) (all : List Difference) (list : List A) (rest : List Difference) (many : ℕ) (now : List A) : Type 0 where
+  pub done : List Difference
+  pub count : length done ≡ many
+  pub parts : all ≡ done ++ rest
+  pub puts : now ≡ sets list 0 (cells (difference_words done))
+
+module _ {A : Type 0} (cells : List ℕ → List A) (wide : ℕ) (none : cells [] ≡ []) (append : (one other : List ℕ) → cells (one ++ other) ≡ cells one ++ cells other)
+    (size : (words : List ℕ) → length (cells words) ≡ wide * length words) (all : List Difference) (list : List A) where
+  written : (ds : List Difference) → length (cells (difference_words ds)) ≡ 4 * wide * length ds
+  written ds = rw (size (difference_words ds), four_words ds) (grind arith)
+
+  -- one more is put after those that were
+  put_after : (done : List Difference) (d : Difference) (place : ℕ) → place ≡ 4 * wide * length done
+      → sets (sets list 0 (cells (difference_words done))) place (cells (difference_words (d ∷ []))) ≡ sets list 0 (cells (difference_words (done ++ d ∷ [])))
+  put_after done d place is =
+      let one = cells (difference_words done) in
+      let other = cells (difference_words (d ∷ [])) in
+      let together : cells (difference_words (done ++ d ∷ [])) ≡ one ++ other = ap cells (words_append done (d ∷ [])) ∙ append (difference_words done) (difference_words (d ∷ [])) in
+      ap (λ (i : ℕ). sets (sets list 0 one) i other) (is ∙ sym (written done) ∙ sym (zero-add (length one)))
+      ∙ sets_append list 0 one other ∙ ap (sets list 0) (sym together)
+
+  -- at first none was
+  pub listed_none : Listed cells all list all 0 list
+  listed_none = record { done = []; count = refl; parts = refl; puts = rw (no_words, none) }
+
+  module _ {d : Difference} {rest others : List Difference} {many : ℕ} {now : List A} (l : Listed cells all list rest many now) (e : rest ≡ d ∷ others) where
+    -- there is room for the next
+    pub listed_room : 4 * wide * length all ≤ length list → 4 * wide * many + 4 * wide ≤ length now
+    listed_room room =
+        let parts = ap length l.parts in
+        let counted = rw (e, length-append) at parts in
+        let more : many + 1 ≤ length all = omega (arith, l.count, counted) in
+        rw (l.puts, length-sets) (le_trans (rw (mul-add, mul-one) at (mul-le-mul_left (4 * wide) more)) room)
+
+    -- and it is put after them
+    pub listed_more : {next : List A} → next ≡ sets now (4 * wide * many) (cells (difference_words (d ∷ []))) → Listed cells all list others (many + 1) next
+    listed_more {next} put = record {
+      done = l.done ++ d ∷ [];
+      count = rw length-append (omega (arith, l.count));
+      parts = l.parts ∙ rw (e, append_assoc);
+      puts = put ∙ rw l.puts (put_after l.done d (4 * wide * many) (ap (λ (n : ℕ). 4 * wide * n) (sym l.count)));
+    }
+
+  -- at last all were
+  pub listed_all : {many : ℕ} {now : List A} → 4 * wide * length all ≤ length list → Listed cells all list [] many now → now ≡ over (cells (difference_words all)) list
+  listed_all room l =
+      let whole : l.done ≡ all = sym (l.parts ∙ append-nil l.done) in
+      l.puts ∙ rw whole (stored_over (cells (difference_words all)) list (rw (written all) room))

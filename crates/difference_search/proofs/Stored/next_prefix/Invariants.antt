@@ -1,0 +1,9 @@
+-- What lies ahead is what the slots before `slot` have: `Lies` of `told_below`.
+use Rattle.rules.specs.Numbers.{party_number}
+use Rattle.difference_search.specs.Next.{Lies}
+use Rattle.difference_search.proofs.Passing.{told_below}
+use Rattle.difference_search.proofs.Stored.next_prefix.Given as goal
+
+abbrev pub invariant-loop-slot : goal.invariant-loop-slot
+invariant-loop-slot g l =
+    Lies (told_below l.self.settings (g.T.Cell.words l.self.slots.now) (party_number l.party) l.length l.slot) l.from l.ahead

@@ -1,0 +1,2 @@
+-- The laws that every cell that holds words keeps.
+pub mod Laws

@@ -1,2 +1,0 @@
--- The law that the two proofs share.
-pub mod Zeros
