@@ -1,14 +1,16 @@
 -- Slots of a bucket by their number: what the code counts from the first one is `slot_number`, and lies within the lent words.
 use Prim.Native.Nat.{ℕ, ◌+◌, ◌-◌, ◌*◌, ◌%◌, ◌^◌, ◌≤◌, ◌<◌}
-use mathlib.Core.Path.{◌≡◌}
-use mathlib.Core.Bool.{Bool, not}
+use mathlib.Core.Path.{◌≡◌, sym, ap, ◌∙◌}
+use mathlib.Core.Bool.{Bool, not, and_comm}
 use mathlib.Core.List.{List}
 use native.Mathlib.Nat.{mul-le-mul, mod-eq_of_lt}
 use native.Mathlib.Omega.{arith}
 use lib.ListN.{length}
+use lib.Dec.{eqb}
 use lib.Pow.{pow_mono}
+use borrow.Author.Tests.{eq-eqb, ne_eqb}
 use Rattle.rules.specs.declared.Settings.{Settings}
-use Rattle.rules.specs.Table.{slots_size, bucket, slot_number, mark_word, default_word, mark_at, occupied, free, holds}
+use Rattle.rules.specs.Table.{slots_size, bucket, slot_number, mark_word, default_word, mark_at, prefix_at, own, occupied, free, holds}
 use Rattle.rules.specs.Ready.{Ready, Slots}
 use Rattle.rules.proofs.Placing.{ranges, bucket_lt, words_fit, default_fits}
 use Rattle.buckets.specs.Turns.{holding}
@@ -51,6 +53,15 @@ pub holds_by : (t : Settings) (slots : List ℕ) (party p L s first : ℕ) → f
     → (r : Bool) → r ≡ holding slots party (first + s) p → holds t slots party p L s ≡ r
 unfolding holds
 holds_by t slots party p L s first from r h = rw (h, counted t p L s first from)
+
+-- A slot's prefix, once read, decides alone where it is another, and leaves it to the mark where it is p.
+module _ (slots : List ℕ) (party n p q : ℕ) (read : q ≡ prefix_at slots n) where
+  pub same_prefix : (mark : ℕ) {by_mark : Bool} → q ≡ p → mark ≡ mark_at slots n → by_mark ≡ own party mark → by_mark ≡ holding slots party n p
+  same_prefix mark same its_mark by =
+      by ∙ ap (own party) its_mark ∙ sym (and_comm (own party (mark_at slots n)) (eqb (prefix_at slots n) p) ∙ rw (← read, eq-eqb q p same))
+
+  pub other_prefix : (q ≡ p → ⊥) → eqb q p ≡ holding slots party n p
+  other_prefix other = sym (and_comm (own party (mark_at slots n)) (eqb (prefix_at slots n) p) ∙ rw (← read, ne_eqb q p other))
 
 -- the last two words are the parties' defaults'
 module _ (t : Settings) (slots : List ℕ) (lent : Slots t slots) where

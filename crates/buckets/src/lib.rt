@@ -1,10 +1,10 @@
-// Buckets of slots, over lent words: a slot's prefix, then its mark. What only reads takes the words as they are lent, as words
-// or as bytes.
+// Buckets of slots, over lent words: a slot's prefix, then its mark. What only reads takes the words as they are
+// lent, as words or as bytes. That a slot lies inside them is the bound of an index, and stays a clause.
 #![tactic(auto)]
 
-ghost use Rattle.std.specs.Prelude.{◌≡◌, true, ◌<◌, length, set};
-ghost use Rattle.rules.specs.Table.{in_range, slot_number, mark_word, default_word, mark_at, prefix_at, default_mark, with_slot, set_bits, search, first_mark, own, occupied, mark_of};
-ghost use Rattle.rules.specs.Ready.{Ready, Slots};
+ghost use Rattle.std.specs.Prelude.{◌≡◌, ◌<◌, length, set};
+ghost use Rattle.rules.specs.Table.{slot_number, mark_word, default_word, mark_at, prefix_at, default_mark, with_slot, set_bits, search, first_mark, own, occupied, mark_of};
+ghost use Rattle.rules.specs.Ready.{Slots};
 ghost use Rattle.rules.specs.Meaning.{bucket_place};
 ghost use Rattle.rules.specs.Numbers.{party_number};
 ghost use Rattle.buckets.specs.Turns.{Turned, holding};
@@ -12,7 +12,27 @@ ghost use Rattle.buckets.specs.Turns.{Turned, holding};
 use hashes::bucket_of;
 use prefixes::prefix_of;
 use rules::{Party, Place, Settings};
+use settings::{InRange, Length, Table};
 use words::Cell;
+
+// What a table has stored, where it is only read: its slots, and the settings by which they are read.
+#[derive(Drop)]
+pub struct Stored<'a, T: Cell> {
+    pub settings: &'a InRange,
+    pub slots: &'a [T],
+    pub ghost sized: { Slots settings.now.all (T.words slots.now) },
+}
+
+// What a table has stored, read while it is not written.
+pub fn stored_of<'a>(table: &'a Table) -> Stored<'a, u32>
+    ensures settings { result.settings.now ≡ table.now.settings }
+    ensures slots { result.slots.now ≡ table.now.slots.now }
+{
+    Stored {
+        settings: &table.settings,
+        slots: table.slots,
+    }
+}
 
 // One length's part in a search of buckets.
 #[derive(Clone, Copy)]
@@ -55,15 +75,16 @@ fn is_occupied(mark: u32) -> bool
 }
 
 // The number of the first slot of a prefix's bucket at a length.
-pub fn first_slot(settings: Settings, p: u32, length: u32) -> usize
-    requires { Ready settings length }
-    ensures { result ≡ slot_number settings p length 0 }
+pub fn first_slot(settings: &InRange, p: u32, length: Length) -> usize
+    ensures { result ≡ slot_number settings.now.all p length.number 0 }
 {
-    let bucket = bucket_of(settings, p) as usize;
-    ((((length - 1) as usize) << (settings.e as usize)) + bucket) * (settings.s as usize)
+    let bucket = bucket_of(settings.all, p) as usize;
+    let earlier = ((length.number - 1) as usize) << (settings.all.e as usize);
+    (earlier + bucket) * (settings.all.s as usize)
 }
 
 // The prefix of a slot, by its number.
+// This and `mark_at` read one word each, which the rules name apart.
 #[tactic(auto, unfolding(rules::specs::Table::prefix_at, rules::specs::Table::prefix_word, rules::specs::Table::mark_word))]
 pub fn prefix_at<T: Cell>(slots: &[T], slot: usize) -> u32
     requires { mark_word slot < length (T.words slots.now) }
@@ -82,6 +103,7 @@ pub fn mark_at<T: Cell>(slots: &[T], slot: usize) -> u32
 }
 
 // The mark in the word of a party's default route: the last word but one, or the last.
+// It asks only that the slots are of their size, and not that the settings are in range, so it takes no `Stored`.
 pub fn default_mark<T: Cell>(settings: Settings, slots: &[T], party: Party) -> u32
     requires { Slots settings (T.words slots.now) }
     ensures { result ≡ default_mark settings (T.words slots.now) (party_number party) }
@@ -90,6 +112,7 @@ pub fn default_mark<T: Cell>(settings: Settings, slots: &[T], party: Party) -> u
 }
 
 // Gives a party's default route a mark.
+// As of `default_mark`, that the slots are of their size is all that it asks.
 pub fn put_default(settings: Settings, slots: &mut [u32], party: Party, mark: u32)
     requires { Slots settings slots.old }
     ensures { slots.new ≡ set slots.old (default_word settings (party_number party)) mark }
@@ -118,14 +141,13 @@ fn holds_at<T: Cell>(slots: &[T], party: Party, slot: usize, p: u32) -> bool
 
 // A turn of a search: the longest length that is left, the address's prefix of it, the first slot of
 // that prefix's bucket, and the lengths that are left after it.
-pub fn turn_of(settings: Settings, address: u32, lengths: u32) -> Turn
-    requires settings_value { in_range settings ≡ true }
-    requires some_left { lengths ≡ 0 → ⊥ }
-    ensures { Turned settings address lengths result }
+pub fn turn_of(settings: &InRange, address: u32, lengths: u32) -> Turn
+    requires { lengths ≡ 0 → ⊥ }
+    ensures { Turned settings.now.all address lengths result }
 {
     let length = 32 - lengths.leading_zeros();
     let p = prefix_of(address, length);
-    let first = first_slot(settings, p, length);
+    let first = first_slot(settings, p, Length { number: length });
     let left = lengths - (1 << (length - 1));
     Turn {
         p,
@@ -135,62 +157,58 @@ pub fn turn_of(settings: Settings, address: u32, lengths: u32) -> Turn
     }
 }
 
-// Searches the buckets of an address at the lengths whose bits are set in `lengths`, from the
-// longest down, each from its lowest slot up, for a slot that is the party's and holds the prefix.
-pub fn search_buckets<T: Cell>(
-    settings: Settings,
-    slots: &[T],
-    party: Party,
-    address: u32,
-    lengths: u32,
-) -> Place
-    requires settings_value { in_range settings ≡ true }
-    requires slots { Slots settings (T.words slots.now) }
-    ensures { result ≡ search settings (T.words slots.now) (party_number party) address 0 (set_bits lengths) }
-{
-    let mut found = Place::Absent(None);
-    let mut left = lengths;
-    let mut probes: u32 = 0;
-    'lengths: while left != 0 {
-        let turn = turn_of(settings, address, left);
-        probes += 1;
-        for s in 0..settings.s {
-            let slot = turn.first + s as usize;
-            if holds_at(slots, party, slot, turn.p) {
-                found = Place::At {
+impl<T: Cell> Stored<'_, T> {
+    // Searches the buckets of an address at the lengths whose bits are set in `lengths`, from the
+    // longest down, each from its lowest slot up, for a slot that is the party's and holds the prefix. Nested loops,
+    // left by a label with what was found, are a form that was asked for.
+    pub fn search_buckets(&self, party: Party, address: u32, lengths: u32) -> Place
+        ensures { result ≡ search self.now.settings.now.all (T.words self.now.slots.now) (party_number party) address 0 (set_bits lengths) }
+    {
+        let settings = self.settings;
+        let mut found = Place::Absent(None);
+        let mut left = lengths;
+        let mut probes: u32 = 0;
+        'lengths: while left != 0 {
+            let turn = turn_of(settings, address, left);
+            probes += 1;
+            for s in 0..settings.all.s {
+                let slot = turn.first + s as usize;
+                if holds_at(self.slots, party, slot, turn.p) {
+                    found = Place::At {
+                        slot,
+                        length: turn.length,
+                        probes,
+                    };
+                    break 'lengths;
+                }
+            }
+            left = turn.left;
+        }
+        found
+    }
+
+    // Searches a prefix's own bucket at a length, from the lowest slot up to the one that is the party's and
+    // holds the prefix, and keeps the first free slot on the way.
+    pub fn search_bucket(&self, party: Party, p: u32, length: Length) -> Place
+        ensures { result ≡ bucket_place self.now.settings.now.all (T.words self.now.slots.now) (party_number party) p length.number }
+    {
+        let settings = self.settings;
+        let slots = self.slots;
+        let first = first_slot(settings, p, length);
+        let mut vacancy = None;
+        for s in 0..settings.all.s {
+            let slot = first + s as usize;
+            if holds_at(slots, party, slot, p) {
+                return Place::At {
                     slot,
-                    length: turn.length,
-                    probes,
+                    length: length.number,
+                    probes: 1,
                 };
-                break 'lengths;
+            }
+            if !is_occupied(mark_at(slots, slot)) {
+                vacancy = vacancy.or(Some(slot));
             }
         }
-        left = turn.left;
+        Place::Absent(vacancy)
     }
-    found
-}
-
-// Searches a prefix's own bucket at a length, from the lowest slot up to the one that is the party's and
-// holds the prefix, and keeps the first free slot on the way.
-pub fn search_bucket(settings: Settings, slots: &[u32], party: Party, p: u32, length: u32) -> Place
-    requires ready { Ready settings length }
-    requires slots { Slots settings slots.now }
-    ensures { result ≡ bucket_place settings slots.now (party_number party) p length }
-{
-    let first = first_slot(settings, p, length);
-    let mut vacancy = None;
-    for s in 0..settings.s {
-        let slot = first + s as usize;
-        if holds_at(slots, party, slot, p) {
-            return Place::At {
-                slot,
-                length,
-                probes: 1,
-            };
-        }
-        if !is_occupied(mark_at(slots, slot)) {
-            vacancy = vacancy.or(Some(slot));
-        }
-    }
-    Place::Absent(vacancy)
 }

@@ -12,7 +12,7 @@ ghost use Rattle.c_numbers.specs.Fitting.{RefusalFits, Fits, CountsFit};
 use message_format::Report;
 use rules::{Lookup, Refusal, number_given};
 
-// A refusal's part of the number that every call gives back.
+// A refusal's part of the number that every call gives back. It takes a number, since a chunk's end is one.
 pub fn refusal_part(refusal: u32) -> u64
     requires { RefusalFits refusal }
     ensures { result ≡ refusal * 2 ^ 48 }

@@ -690,6 +690,7 @@ fn run(
     Ok(())
 }
 
+// Each program of cases has a main of its own, which sets up the memory that its cases need.
 fn main(rt: HostRuntime) -> io::Result<()> {
     // Before the first clear the memory holds something else than zeros.
     let mut counters = [7u8; 2048];

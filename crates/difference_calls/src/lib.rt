@@ -7,11 +7,11 @@ ghost use Rattle.rules.specs.Table.{lent, memory_refusal, party_refusal};
 ghost use Rattle.rules.specs.Numbers.{party_number, number_given};
 ghost use Rattle.difference_rules.specs.Comparing.{between, difference_words, over, differences_given, difference_refusal, compared, difference, c_difference};
 
-use difference_search::Stored;
+use buckets::Stored;
 use difference_steps::put;
 use difference_walks::Differences;
 use rules::{Party, Refusal, Settings};
-use settings::{refuse_party_sizes, refuse_sizes};
+use settings::{InRange, refuse_party_sizes, refuse_sizes};
 use words::Cell;
 
 // 1 and 2 of both tables and 15; or the party.
@@ -33,7 +33,7 @@ fn refuse_tables<T: Cell>(
 
 // How many prefixes two tables differ at.
 fn count_differences<T: Cell>(first: &Stored<T>, second: &Stored<T>, party: Party) -> u32
-    ensures { result ≡ length (between first.now.settings (T.words first.now.slots.now) second.now.settings (T.words second.now.slots.now) (party_number party)) }
+    ensures { result ≡ length (between first.now.settings.now.all (T.words first.now.slots.now) second.now.settings.now.all (T.words second.now.slots.now) (party_number party)) }
 {
     Differences::new(first, second, party).count() as u32
 }
@@ -41,8 +41,8 @@ fn count_differences<T: Cell>(first: &Stored<T>, second: &Stored<T>, party: Part
 // Puts the differences of two tables into a list, from its front on.
 // Each by its place, not by chunks_exact_mut: of chunks that come back a proof knows the lengths alone.
 fn list_differences<T: Cell>(first: &Stored<T>, second: &Stored<T>, party: Party, list: &mut [T])
-    requires room { 4 * T.WIDE * length (between first.now.settings (T.words first.now.slots.now) second.now.settings (T.words second.now.slots.now) (party_number party)) ≤ length list.old }
-    ensures { list.new ≡ over (T.cells (difference_words (between first.now.settings (T.words first.now.slots.now) second.now.settings (T.words second.now.slots.now) (party_number party)))) list.old }
+    requires room { 4 * T.WIDE * length (between first.now.settings.now.all (T.words first.now.slots.now) second.now.settings.now.all (T.words second.now.slots.now) (party_number party)) ≤ length list.old }
+    ensures { list.new ≡ over (T.cells (difference_words (between first.now.settings.now.all (T.words first.now.slots.now) second.now.settings.now.all (T.words second.now.slots.now) (party_number party)))) list.old }
 {
     for (i, found) in Differences::new(first, second, party).enumerate() {
         put(list, 4 * T::WIDE * i, found);
@@ -50,6 +50,7 @@ fn list_differences<T: Cell>(first: &Stored<T>, second: &Stored<T>, party: Party
 }
 
 // Counts the prefixes at which two tables differ, and lists them where the list has room for all of them.
+// Eight parameters: C's interface names each of them, and a struct over them before the checks would say nothing.
 fn compare<T: Cell>(
     first: Settings,
     counters: &[u8],
@@ -64,12 +65,14 @@ fn compare<T: Cell>(
     ensures listed { let ds = between first (T.words slots.now) second (T.words slots2.now) party in MatchResult result (λ count. (count ≡ length ds) × (list.new ≡ over (T.cells (difference_words ds)) list.old)) (λ _. list.new ≡ list.old) }
 {
     let party = refuse_tables(first, counters, slots, second, counters2, slots2, party)?;
+    let first = InRange { all: first };
+    let second = InRange { all: second };
     let first = Stored {
-        settings: first,
+        settings: &first,
         slots,
     };
     let second = Stored {
-        settings: second,
+        settings: &second,
         slots: slots2,
     };
     let count = count_differences(&first, &second, party);
@@ -100,6 +103,7 @@ pub fn difference(
 }
 
 // As `difference`, where slots and list are lent as bytes, four to a word, the low byte first.
+// Both are one call of `compare`: `difference_determined` and `difference_in_bytes_determined` speak of each.
 pub fn difference_in_bytes(
     first: Settings,
     counters: &[u8],

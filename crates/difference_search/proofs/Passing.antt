@@ -175,7 +175,7 @@ module _ (t : Settings) (slots : List ℕ) (party L : ℕ) where
 
 module _ (t : Settings) (slots : List ℕ) (party L n from : ℕ) where
   -- before the first slot of the length nothing lies ahead
-  pub passed_none : Ready t L → n ≡ (L - 1) * 2 ^ t.e * t.s → from < 2 ^ 32 → Lies (told_below t slots party L n) from None
+  pub passed_none : Ready t L → n ≡ (L - 1) * 2 ^ t.e * t.s → from ≤ 2 ^ 32 → Lies (told_below t slots party L n) from None
   passed_none ready first far =
       record {
         low = omega arith;
@@ -218,7 +218,7 @@ module _ (t : Settings) (slots : List ℕ) (party : ℕ) where
   has_beyond p low high = rw (loose_low p 0, lt-ltb 0 (p % 2 ^ 32) (omega arith))
 
   -- from a prefix on that is not its own, or where it has none, nothing lies ahead
-  pub default_none : {from : ℕ} → from < 2 ^ 32 → (from ≡ 0 → told party (default_mark t slots party) ≡ 0) → Lies (λ p. has t slots party p 0) from None
+  pub default_none : {from : ℕ} → from ≤ 2 ^ 32 → (from ≡ 0 → told party (default_mark t slots party) ≡ 0) → Lies (λ p. has t slots party p 0) from None
   default_none {from} far silent = record {
     low = omega arith;
     high = omega arith;

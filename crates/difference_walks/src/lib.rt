@@ -8,8 +8,9 @@ ghost use Rattle.rules.specs.Numbers.{party_number};
 ghost use Rattle.difference_rules.specs.Comparing.{has, between};
 ghost use Rattle.difference_steps.specs.Walking.{Walking, Passed, Underway, nearest_of, left};
 
+use buckets::Stored;
 use difference_rules::Difference;
-use difference_search::{Ahead, Stored};
+use difference_search::{Ahead, next_prefix};
 use difference_steps::Walk;
 use rules::Party;
 use words::Cell;
@@ -23,11 +24,11 @@ fn pass<T: Cell>(
     ahead: Option<Ahead>,
 ) -> Option<Ahead>
     requires { length ≤ 32 }
-    ensures { Passed (λ p. has table.now.settings (T.words table.now.slots.now) (party_number party) p length) prefix ahead result }
+    ensures { Passed (λ p. has table.now.settings.now.all (T.words table.now.slots.now) (party_number party) p length) prefix ahead result }
 {
     match ahead {
         Some(met) if met.prefix == prefix => {
-            table.next_prefix(party, length, prefix.checked_add(1)?)
+            next_prefix(table, party, length, u64::from(prefix) + 1)
         }
         _ => ahead,
     }
@@ -36,11 +37,11 @@ fn pass<T: Cell>(
 // What lies ahead in two tables at a length, from its first prefix on.
 fn begin<T: Cell>(first: &Stored<T>, second: &Stored<T>, party: Party, length: u32) -> Walk
     requires { length ≤ 32 }
-    ensures { Walking (has first.now.settings (T.words first.now.slots.now) (party_number party)) (has second.now.settings (T.words second.now.slots.now) (party_number party)) length 0 result }
+    ensures { Walking (has first.now.settings.now.all (T.words first.now.slots.now) (party_number party)) (has second.now.settings.now.all (T.words second.now.slots.now) (party_number party)) length 0 result }
 {
     Walk {
-        first: first.next_prefix(party, length, 0),
-        second: second.next_prefix(party, length, 0),
+        first: next_prefix(first, party, length, 0),
+        second: next_prefix(second, party, length, 0),
     }
 }
 
@@ -59,8 +60,8 @@ impl<'a, T: Cell> Differences<'a, T> {
     #[tactic(auto, using(crate::proofs::Walking::left_begun), unfolding(difference_rules::specs::Comparing::between))]
     pub fn new(first: &'a Stored<'a, T>, second: &'a Stored<'a, T>, party: Party) -> Self
         ensures tables { (result.first.now ≡ first.now) × (result.second.now ≡ second.now) × (result.party ≡ party) }
-        ensures underway { Underway (has first.now.settings (T.words first.now.slots.now) (party_number party)) (has second.now.settings (T.words second.now.slots.now) (party_number party)) result.length result.walk }
-        ensures all { left (has first.now.settings (T.words first.now.slots.now) (party_number party)) (has second.now.settings (T.words second.now.slots.now) (party_number party)) result.length result.walk ≡ between first.now.settings (T.words first.now.slots.now) second.now.settings (T.words second.now.slots.now) (party_number party) }
+        ensures underway { Underway (has first.now.settings.now.all (T.words first.now.slots.now) (party_number party)) (has second.now.settings.now.all (T.words second.now.slots.now) (party_number party)) result.length result.walk }
+        ensures all { left (has first.now.settings.now.all (T.words first.now.slots.now) (party_number party)) (has second.now.settings.now.all (T.words second.now.slots.now) (party_number party)) result.length result.walk ≡ between first.now.settings.now.all (T.words first.now.slots.now) second.now.settings.now.all (T.words second.now.slots.now) (party_number party) }
     {
         Differences {
             first,
@@ -73,9 +74,9 @@ impl<'a, T: Cell> Differences<'a, T> {
 
     // What lies ahead in both tables once the nearer prefix is passed.
     fn passed(&self, prefix: u32) -> Walk
-        requires underway { Underway (has self.now.first.now.settings (T.words self.now.first.now.slots.now) (party_number self.now.party)) (has self.now.second.now.settings (T.words self.now.second.now.slots.now) (party_number self.now.party)) self.now.length self.now.walk }
+        requires underway { Underway (has self.now.first.now.settings.now.all (T.words self.now.first.now.slots.now) (party_number self.now.party)) (has self.now.second.now.settings.now.all (T.words self.now.second.now.slots.now) (party_number self.now.party)) self.now.length self.now.walk }
         requires nearer { prefix ≡ nearest_of self.now.walk }
-        ensures { Walking (has self.now.first.now.settings (T.words self.now.first.now.slots.now) (party_number self.now.party)) (has self.now.second.now.settings (T.words self.now.second.now.slots.now) (party_number self.now.party)) self.now.length (nearest_of self.now.walk + 1) result }
+        ensures { Walking (has self.now.first.now.settings.now.all (T.words self.now.first.now.slots.now) (party_number self.now.party)) (has self.now.second.now.settings.now.all (T.words self.now.second.now.slots.now) (party_number self.now.party)) self.now.length (nearest_of self.now.walk + 1) result }
     {
         let (party, length) = (self.party, self.length);
         Walk {
@@ -88,11 +89,11 @@ impl<'a, T: Cell> Differences<'a, T> {
 impl<'a, T: Cell> Iterator for Differences<'a, T> {
     type Item = Difference;
 
-    ghost can_next = { λ s. Underway (has s.first.now.settings (T.words s.first.now.slots.now) (party_number s.party)) (has s.second.now.settings (T.words s.second.now.slots.now) (party_number s.party)) s.length s.walk };
+    ghost can_next = { λ s. Underway (has s.first.now.settings.now.all (T.words s.first.now.slots.now) (party_number s.party)) (has s.second.now.settings.now.all (T.words s.second.now.slots.now) (party_number s.party)) s.length s.walk };
 
-    ghost next_gives = { YieldsFirst (λ s. left (has s.first.now.settings (T.words s.first.now.slots.now) (party_number s.party)) (has s.second.now.settings (T.words s.second.now.slots.now) (party_number s.party)) s.length s.walk) };
+    ghost next_gives = { YieldsFirst (λ s. left (has s.first.now.settings.now.all (T.words s.first.now.slots.now) (party_number s.party)) (has s.second.now.settings.now.all (T.words s.second.now.slots.now) (party_number s.party)) s.length s.walk) };
 
-    ghost remaining = { item_count (λ s. left (has s.first.now.settings (T.words s.first.now.slots.now) (party_number s.party)) (has s.second.now.settings (T.words s.second.now.slots.now) (party_number s.party)) s.length s.walk) };
+    ghost remaining = { item_count (λ s. left (has s.first.now.settings.now.all (T.words s.first.now.slots.now) (party_number s.party)) (has s.second.now.settings.now.all (T.words s.second.now.slots.now) (party_number s.party)) s.length s.walk) };
 
     fn next(&mut self) -> Option<Difference> {
         loop {

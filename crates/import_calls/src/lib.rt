@@ -13,6 +13,7 @@ ghost use Rattle.import_calls.specs.Laws.{names_party, taken_up, written, any_hi
 use import_format::ImportCounts;
 use import_readers::read_record;
 use rules::{Party, Refusal, Settings};
+use settings::Table;
 use stream_chunks::{Reader, take_chunk};
 use stream_format::Kind;
 use updates::add_announced;
@@ -72,24 +73,14 @@ impl Reader<3> for Importer<'_> {
 
     fn read(
         &self,
-        settings: Settings,
-        counters: &mut [u8],
-        slots: &mut [u32],
+        table: &mut Table,
         party: Party,
         bytes: &[u8],
         counts: &mut ImportCounts,
     ) -> Result<(), Refusal> {
         *counts = match read_record(bytes, self.hops)? {
             Some(route) => {
-                let outcome = add_announced(
-                    settings,
-                    counters,
-                    slots,
-                    party,
-                    route.prefix,
-                    route.length,
-                    route.hop,
-                );
+                let outcome = add_announced(table, party, route.prefix, route.length, route.hop);
                 count_route(*counts, outcome)
             }
             None => count_hopless(*counts),
@@ -115,6 +106,7 @@ impl Reader<3> for Importer<'_> {
 }
 
 // Takes one chunk of a dump: the number that ended the import, or the refusal of the chunk, or 0.
+// A number and no refusal: the words that are lent can hold any number for the end of a stream.
 #[tactic(auto, unfolding(import_format::specs::Importing::import_chunk))]
 pub fn import_chunk(
     settings: Settings,

@@ -11,7 +11,7 @@ use Rattle.std.specs.Prelude.{Ok, Err, Some, None}
 use Rattle.std.proofs.lemmas.List.{drop_more, drop_all}
 use Rattle.rules.specs.declared.Settings.{Settings}
 use Rattle.rules.specs.declared.Refusal.{Refusal}
-use Rattle.rules.specs.Table.{Memory, lent, left, in_range, counters_size, slots_size}
+use Rattle.rules.specs.Table.{Memory, lent, left}
 use Rattle.rules.specs.Calls.{Call, act}
 use Rattle.rules.proofs.Members.{both}
 use Rattle.rules.proofs.Prefixes.{prefix_again}
@@ -135,13 +135,9 @@ module _ (t : Settings) (party : ℕ) (message : List ℕ) (m : Memory) (parts :
           })
 
       -- what was read is a route, which the calls need not check again
-      pub checked : in_range t ≡ true → length counters ≡ counters_size t → length slots ≡ slots_size t → party ≤ 1 → Checked t counters slots party read.prefix read.length
+      pub checked : Checked read.prefix read.length
       unfolding prefix_from prefix_fits read_prefix
-      checked range counters_fit slots_fit known = rw moved.read (record {
-        range = range;
-        counters_fit = counters_fit;
-        slots_fit = slots_fit;
-        known = known;
+      checked = rw moved.read (record {
         high = leb-true _ _ (both (leb (byte message rest.at) 32) _ moved.fits).0;
         tight = prefix_again _ (byte message rest.at);
       })

@@ -3,11 +3,11 @@
 // callers that have checked settings, sizes and party.
 #![tactic(auto)]
 
-ghost use Rattle.std.specs.Prelude.{◌≡◌, true};
+ghost use Rattle.std.specs.Prelude.{◌≡◌};
 ghost use Rattle.rules.specs.Numbers.{party_number, number_given};
-ghost use Rattle.rules.specs.Table.{lent, left, in_range};
+ghost use Rattle.rules.specs.Table.{lent, left};
 ghost use Rattle.rules.specs.Calls.{act};
-ghost use Rattle.rules.specs.Ready.{Counters, Slots};
+ghost use Rattle.settings.specs.Tables.{memory_of, Same};
 ghost use Rattle.updates.specs.Checked.{Checked};
 ghost use Rattle.message_format.specs.Reading.{apply_message, reported};
 ghost use Rattle.message_format.specs.Reports.{report_given};
@@ -17,7 +17,7 @@ use message_cursors::Cursor;
 use message_format::Report;
 use message_readers::{hop_due, read_message};
 use rules::{Party, Refusal, Settings};
-use settings::refuse_party;
+use settings::{InRange, Table, refuse_party};
 use updates::{add_announced, withdraw_checked};
 
 // How many single calls were accepted, how many were refused, and how many of these under each number that a
@@ -78,7 +78,8 @@ impl Counts {
     }
 }
 
-// What is done with each prefix of a part: it is withdrawn, or added with this hop.
+// What is done with each prefix of a part: it is withdrawn, or added with this hop. `task_call` says which call each
+// is, so it is an enum and no closure.
 #[derive(Clone, Copy, Debug, PartialEq, Eq)]
 enum Task {
     Withdraw,
@@ -88,21 +89,14 @@ enum Task {
 impl Task {
     // Makes the party's single call of the task for one prefix.
     #[tactic(auto, unfolding(rules::specs::Calls::act, crate::specs::Walks::task_call))]
-    fn apply(
-        self,
-        settings: Settings,
-        counters: &mut [u8],
-        slots: &mut [u32],
-        party: Party,
-        prefix: u32,
-        length: u32,
-    ) -> Result<(), Refusal>
-        requires { Checked settings counters.old slots.old (party_number party) prefix length }
-        ensures { act settings (task_call (party_number party) self prefix length) (lent counters.old slots.old) ≡ left (number_given result) counters.new slots.new }
+    fn apply(self, table: &mut Table, party: Party, prefix: u32, length: u32) -> Result<(), Refusal>
+        requires { Checked prefix length }
+        ensures same { Same table.old table.new }
+        ensures done { act table.old.settings.all (task_call (party_number party) self prefix length) (memory_of table.old) ≡ left (number_given result) table.new.counters.now table.new.slots.now }
     {
         match self {
-            Task::Withdraw => withdraw_checked(settings, counters, slots, party, prefix, length),
-            Task::Add(hop) => add_announced(settings, counters, slots, party, prefix, length, hop),
+            Task::Withdraw => withdraw_checked(table, party, prefix, length),
+            Task::Add(hop) => add_announced(table, party, prefix, length, hop),
         }
     }
 }
@@ -110,26 +104,22 @@ impl Task {
 // Withdraws each prefix of one part, then adds each of another with this hop, in their order, and counts. There is no
 // fault in a message that was read from end to end.
 fn apply_parts(
-    settings: Settings,
-    counters: &mut [u8],
-    slots: &mut [u32],
+    table: &mut Table,
     party: Party,
     message: &[u8],
     withdrawn: Cursor,
     announced: Cursor,
     hop: u16,
 ) -> Result<Counts, Refusal>
-    requires settings_value { in_range settings ≡ true }
-    requires counters { Counters settings counters.old }
-    requires slots { Slots settings slots.old }
-    requires apart { Apart message.now withdrawn announced }
-    ensures { accepted_as (walked settings (lent counters.old slots.old) none_counted (both_calls (party_number party) message.now withdrawn announced hop)) ≡ applied_to result counters.new slots.new }
+    requires { Apart message.now withdrawn announced }
+    ensures same { Same table.old table.new }
+    ensures done { accepted_as (walked table.old.settings.all (memory_of table.old) none_counted (both_calls (party_number party) message.now withdrawn announced hop)) ≡ applied_to result table.new.counters.now table.new.slots.now }
 {
     let mut counts = Counts::default();
     for (task, part) in [(Task::Withdraw, withdrawn), (Task::Add(hop), announced)] {
         let mut rest = part;
         while let Some(read) = rest.next_prefix(message)? {
-            let outcome = task.apply(settings, counters, slots, party, read.prefix, read.length);
+            let outcome = task.apply(table, party, read.prefix, read.length);
             counts = counts.with(outcome);
             rest = read.rest;
         }
@@ -137,20 +127,16 @@ fn apply_parts(
     Ok(counts)
 }
 
-// Applies one message for a party to a table whose settings and sizes are good. Its single calls are counted; it is
+// Applies one message for a party to a table. Its single calls are counted; it is
 // refused where it is not well-formed, and where prefixes are announced without a hop that is in the list.
 pub fn apply_update(
-    settings: Settings,
-    counters: &mut [u8],
-    slots: &mut [u32],
+    table: &mut Table,
     party: Party,
     message: &[u8],
     hops: &[u32],
 ) -> Result<Counts, Refusal>
-    requires settings_value { in_range settings ≡ true }
-    requires counters { Counters settings counters.old }
-    requires slots { Slots settings slots.old }
-    ensures { update_done settings (lent counters.old slots.old) (party_number party) message.now hops.now ≡ applied_to result counters.new slots.new }
+    ensures same { Same table.old table.new }
+    ensures done { update_done table.old.settings.all (memory_of table.old) (party_number party) message.now hops.now ≡ applied_to result table.new.counters.now table.new.slots.now }
 {
     let read = read_message(message)?;
     let announces = read.announced_from < message.len();
@@ -163,9 +149,7 @@ pub fn apply_update(
         at: read.announced_from,
         end: message.len(),
     };
-    apply_parts(
-        settings, counters, slots, party, message, withdrawn, announced, hop,
-    )
+    apply_parts(table, party, message, withdrawn, announced, hop)
 }
 
 // Applies one message for a party: its withdrawn routes in order, then its announced ones, whose hop is the
@@ -181,7 +165,13 @@ pub fn apply_message(
     ensures { apply_message settings (lent counters.old slots.old) party message.now hops.now ≡ reported (report_given result) counters.new slots.new }
 {
     let party = refuse_party(settings, counters, slots, party)?;
-    let counts = apply_update(settings, counters, slots, party, message, hops)?;
+    let settings = InRange { all: settings };
+    let mut table = Table {
+        settings,
+        counters,
+        slots,
+    };
+    let counts = apply_update(&mut table, party, message, hops)?;
     Ok(Report {
         accepted: counts.accepted,
         refused: counts.refused,

@@ -35,7 +35,7 @@ pub struct AttributeRead {
     pub rest: Cursor,
 }
 
-// The number in two bytes.
+// The number in two bytes. This and `four_bytes` are a definition each, and std has one function for each width.
 #[tactic(auto, unfolding(message_format::specs::Format::two_bytes, message_format::specs::Format::from_octets, message_format::specs::Format::byte))]
 pub fn two_bytes(bytes: &[u8], at: usize) -> u32
     requires { at + 2 ≤ length bytes.now }

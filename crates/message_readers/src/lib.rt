@@ -63,10 +63,11 @@ fn find_hop(hops: &[u32], address: u32) -> Option<u16>
     ensures { result ≡ hop_found hops.now address }
 {
     let place = place_of(hops, address)?;
+    // The cast loses nothing: no place above 65,535 is looked at.
     Some(place as u16)
 }
 
-// The hop of what a message announces; where that is nothing, no hop is wanted, and 0 will do.
+// The hop of what a message announces; where that is nothing, no hop is wanted, and 0 will do, as `hop_due` has it.
 #[tactic(auto, unfolding(crate::specs::Readings::hop_due))]
 pub fn hop_due(announces: bool, next_hop: Option<u32>, hops: &[u32]) -> Option<u16>
     ensures { result ≡ hop_due announces next_hop hops.now }

@@ -4,7 +4,8 @@
 ghost use Rattle.std.specs.Prelude.{◌≡◌, ◌-◌, ◌^◌, ◌≤◌};
 ghost use Rattle.rules.specs.Table.{prefix, lies_in, odd_prefix};
 
-// The mask of a length: that many bits set, from the highest down.
+// The mask of a length: that many bits set, from the highest down. Lengths up to 32 stay numbers: callers have the
+// bound from a loop or a check, and would take a type for it apart again.
 fn mask(length: u32) -> u32
     requires { length ≤ 32 }
     ensures { result ≡ 2 ^ 32 - 2 ^ (32 - length) }

@@ -1,6 +1,6 @@
-// What a call checks before it looks into the memory: an update 1, 2, 15, 3 and 4 of its party and its route,
-// and 5 of its hop; an add 11 between them; a list of addresses 1, 2, 15 and 18. What passes gives the party, and the
-// hop as a number of 16 bits.
+// What a call checks, of the parameters that it is given one by one, before it looks into the memory: an update 1, 2,
+// 15, 3 and 4 of its party and its route, and 5 of its hop; an add 11 between them; a list of addresses 1, 2, 15 and
+// 18. What passes gives the party, and the hop as a number of 16 bits.
 #![tactic(auto)]
 
 ghost use Rattle.std.specs.Prelude.{◌≡◌, ltb, length, IfOk};

@@ -3,10 +3,10 @@
 // the stream and its room.
 #![tactic(auto)]
 
-ghost use Rattle.std.specs.Prelude.{◌≡◌, true};
+ghost use Rattle.std.specs.Prelude.{◌≡◌};
 ghost use Rattle.rules.specs.Numbers.{party_number};
-ghost use Rattle.rules.specs.Ready.{Counters, Slots};
-ghost use Rattle.rules.specs.Table.{lent, in_range};
+ghost use Rattle.rules.specs.Table.{lent};
+ghost use Rattle.settings.specs.Tables.{Same};
 ghost use Rattle.stream_format.specs.Chunks.{chunked};
 ghost use Rattle.replay_format.specs.Replaying.{replaying, replay_chunk};
 ghost use Rattle.replay_calls.specs.Days.{LowAfter, RecordReplayed};
@@ -17,6 +17,7 @@ use replay_format::Tally;
 use replay_readers::read_record;
 use replay_tally::note;
 use rules::{Party, Refusal, Settings};
+use settings::Table;
 use stream_chunks::{Reader, take_chunk};
 use stream_format::Kind;
 
@@ -28,22 +29,18 @@ struct Replayer<'a> {
 
 // Applies the UPDATE of one record, if it holds one that is not refused: what was counted of its routes.
 fn replay_record(
-    settings: Settings,
-    counters: &mut [u8],
-    slots: &mut [u32],
+    table: &mut Table,
     party: Party,
     bytes: &[u8],
     hops: &[u32],
 ) -> Result<Option<Counts>, Refusal>
-    requires settings_value { in_range settings ≡ true }
-    requires counters { Counters settings counters.old }
-    requires slots { Slots settings slots.old }
-    ensures { RecordReplayed settings (party_number party) hops.now bytes.now counters.old slots.old result counters.new slots.new }
+    ensures same { Same table.old table.new }
+    ensures done { RecordReplayed table.old.settings.all (party_number party) hops.now bytes.now table.old.counters.now table.old.slots.now result table.new.counters.now table.new.slots.now }
 {
     let Some(at) = read_record(bytes)? else {
         return Ok(None);
     };
-    match apply_update(settings, counters, slots, party, &bytes[at..], hops) {
+    match apply_update(table, party, &bytes[at..], hops) {
         Ok(counts) => Ok(Some(counts)),
         Err(Refusal::Hopless) => Ok(None),
         Err(refusal) => Err(refusal),
@@ -70,14 +67,12 @@ impl Reader<23> for Replayer<'_> {
     #[tactic(auto, unfolding(crate::specs::Days::replayed_to))]
     fn read(
         &self,
-        settings: Settings,
-        counters: &mut [u8],
-        slots: &mut [u32],
+        table: &mut Table,
         party: Party,
         bytes: &[u8],
         tally: &mut Tally,
     ) -> Result<(), Refusal> {
-        let applied = replay_record(settings, counters, slots, party, bytes, self.hops)?;
+        let applied = replay_record(table, party, bytes, self.hops)?;
         note(tally, applied);
         Ok(())
     }
@@ -101,6 +96,9 @@ impl Reader<23> for Replayer<'_> {
 }
 
 // Takes one chunk of a day: the number that ended the replay, or the refusal of the chunk, or 0.
+// A number and no refusal: the words that are lent can hold any number for the end of a stream.
+// It looks like `import_chunk`, since all that differs is the reader: `import_chunk_determined` and
+// `replay_chunk_determined` speak of each.
 #[tactic(auto, unfolding(replay_format::specs::Replaying::replay_chunk))]
 pub fn replay_chunk(
     settings: Settings,

@@ -1,7 +1,6 @@
 -- The tally as the code steps it: from what was counted of a record's routes, under the numbers that they can be given.
 use Rattle.std.specs.Prelude.{ℕ, ◌+◌, ◌≤◌, false, [], ◌∷◌, get_or, Option, None, Some, IfSome}
 use Rattle.message_calls.specs.declared.Counts.{Counts}
-use Rattle.message_calls.specs.Walks.{Low as CountsLow}
 use Rattle.replay_format.specs.declared.Tally.{Tally}
 use Rattle.replay_format.specs.Replaying.{tally_more}
 
@@ -29,7 +28,16 @@ pub record Low (tally : Tally) (more : ℕ) : Type 0 where
   pub accepted_low : tally.accepted ≤ 4000000000 + more
   pub refused_low : (number : ℕ) → get_or tally.refused number 0 ≤ 4000000000 + more
 
--- every figure has room for what is added: a message has no more routes than bytes
+-- a record's counts are of one message: none has more routes than bytes
+pub record OfOne (counts : Counts) : Type 0 where
+  pub accepted_few : counts.accepted ≤ 4096
+  pub unstored_few : counts.unstored ≤ 4096
+  pub full_few : counts.full ≤ 4096
+  pub above_few : counts.above ≤ 4096
+  pub below_few : counts.below ≤ 4096
+  pub odd_few : counts.odd ≤ 4096
+
+-- every figure has room for what is added
 pub record Addable (tally : Tally) (applied : Option Counts) : Type 0 where
   pub low : Low tally 268435456
-  pub few : IfSome applied (λ counts. CountsLow counts 4096)
+  pub few : IfSome applied OfOne

@@ -113,7 +113,7 @@ pub fn number_given(outcome: Result<(), Refusal>) -> u32
 
 // Where a search of buckets ends: the slot's number, the length at which it lies and the buckets searched; or
 // nowhere, with the lowest free slot of the bucket, by its number, for a route to come: none where the bucket is
-// full, and in a lookup, which keeps none.
+// full, and in a lookup, which keeps none. That one enum answers every search is a form that was asked for.
 #[derive(Clone, Copy)]
 pub enum Place {
     At {

@@ -5,9 +5,9 @@
 ghost use Rattle.std.specs.Prelude.{◌≡◌, ◌≤◌, ◌||◌, ℕ, List, IfOk, true, false, ltb, length};
 ghost use Rattle.rules.specs.declared.Settings.{Settings};
 ghost use Rattle.rules.specs.Numbers.{party_number, number_given};
-ghost use Rattle.rules.specs.Ready.{Counters, Slots};
-ghost use Rattle.rules.specs.Table.{lent, in_range};
+ghost use Rattle.rules.specs.Table.{lent};
 ghost use Rattle.rules.specs.Tools.{any};
+ghost use Rattle.settings.specs.Tables.{Same};
 ghost use Rattle.stream_format.specs.Streams.{stream, chunk_taken};
 ghost use Rattle.stream_format.specs.Chunks.{Reading, record_done, doing, chunk_refusal, chunked, take_chunk};
 ghost use Rattle.stream_records.specs.Runs.{Sound};
@@ -15,7 +15,7 @@ ghost use Rattle.stream_chunks.specs.Work.{work, done};
 ghost use Rattle.stream_chunks.specs.Grows.{Grows};
 
 use rules::{Party, Refusal, Settings};
-use settings::refuse_party;
+use settings::{InRange, Table, refuse_party};
 use stream_format::{Event, Kind, Stage};
 use stream_records::{keep_stage, next_record, stage_of};
 
@@ -36,25 +36,22 @@ pub trait Reader<const N: usize> {
     // Makes the calls of a record and counts it. One that ends the stream is refused, and does nothing.
     fn read(
         &self,
-        settings: Settings,
-        counters: &mut [u8],
-        slots: &mut [u32],
+        table: &mut Table,
         party: Party,
         bytes: &[u8],
         counts: &mut Self::Counts,
     ) -> Result<(), Refusal>
-        requires settings_value { in_range settings ≡ true }
-        requires counters { Counters settings counters.old }
-        requires slots { Slots settings slots.old }
-        requires low { Low counts.old 65536 }
-        ensures { record_done settings (reading self.now (party_number party)) (work counts.old counters.old slots.old) bytes.now ≡ done (number_given result) counts.new counters.new slots.new };
+        requires { Low counts.old 65536 }
+        ensures same { Same table.old table.new }
+        ensures done { record_done table.old.settings.all (reading self.now (party_number party)) (work counts.old table.old.counters.now table.old.slots.now) bytes.now ≡ done (number_given result) counts.new table.new.counters.now table.new.slots.now };
 
     // Counts a record that is stepped over.
     fn step_over(&self, counts: &mut Self::Counts)
         requires { Low counts.old 65536 }
         ensures { (party : ℕ) → counts.new ≡ (reading self.now party).counts_over counts.old };
 
-    // The reading is the party's; the counts are those of the words that they are taken from, and are written as such words.
+    // The reading is the party's; the counts are those of the words that they are taken from, and are written as
+    // such words.
     ghost names_party: { (x : Self) (party : ℕ) → (reading x party).party ≡ party };
 
     ghost taken_up: { (x : Self) (party : ℕ) (words : List ℕ) (counts : Self.Counts) → Self.Counts.From.from_gives words counts → counts ≡ (reading x party).counts_of words };
@@ -97,9 +94,7 @@ fn any_high(counts: &[u32]) -> bool
 
 // Takes the bytes of a chunk: each record that is complete with one of them is read.
 fn take_records<R: Reader<N>, const N: usize>(
-    settings: Settings,
-    counters: &mut [u8],
-    slots: &mut [u32],
+    table: &mut Table,
     reader: &R,
     party: Party,
     counts: &mut R::Counts,
@@ -107,13 +102,11 @@ fn take_records<R: Reader<N>, const N: usize>(
     room: &mut [u8; 65548],
     chunk: &[u8],
 ) -> Stage
-    requires settings_value { in_range settings ≡ true }
-    requires counters { Counters settings counters.old }
-    requires slots { Slots settings slots.old }
     requires low { R.Low counts.old 0 }
     requires sound { Sound begun }
     requires chunk_len_bound { length chunk.now ≤ 65536 }
-    ensures taken { chunk_taken (R.reading reader.now (party_number party)).kind (doing settings (R.reading reader.now (party_number party))) (stream begun room.old (work counts.old counters.old slots.old)) chunk.now ≡ stream result room.new (work counts.new counters.new slots.new) }
+    ensures same { Same table.old table.new }
+    ensures taken { chunk_taken (R.reading reader.now (party_number party)).kind (doing table.old.settings.all (R.reading reader.now (party_number party))) (stream begun room.old (work counts.old table.old.counters.now table.old.slots.now)) chunk.now ≡ stream result room.new (work counts.new table.new.counters.now table.new.slots.now) }
     ensures stays_sound { Sound result }
 {
     let kind = reader.kind();
@@ -127,7 +120,7 @@ fn take_records<R: Reader<N>, const N: usize>(
             Event::Nothing => return stage,
             Event::Record { size } => {
                 let bytes = &room[..size];
-                if let Err(refusal) = reader.read(settings, counters, slots, party, bytes, counts) {
+                if let Err(refusal) = reader.read(table, party, bytes, counts) {
                     let number = refusal.number();
                     return Stage::Ended { number };
                 }
@@ -138,6 +131,8 @@ fn take_records<R: Reader<N>, const N: usize>(
 }
 
 // Takes one chunk: the number that ended the stream, or the refusal of the chunk, or 0.
+// A number and no refusal: the words that are lent can hold any number for the end of a stream.
+// Nine parameters: README and the header name what is lent, and nothing of it is checked yet.
 pub fn take_chunk<R: Reader<N>, const N: usize>(
     settings: Settings,
     counters: &mut [u8],
@@ -161,17 +156,13 @@ pub fn take_chunk<R: Reader<N>, const N: usize>(
         Err(refusal) => return refusal.number(),
     };
     let mut counted = R::Counts::from(*counts);
-    let stage = take_records(
+    let settings = InRange { all: settings };
+    let mut table = Table {
         settings,
         counters,
         slots,
-        reader,
-        party,
-        &mut counted,
-        begun,
-        room,
-        chunk,
-    );
+    };
+    let stage = take_records(&mut table, reader, party, &mut counted, begun, room, chunk);
     *counts = counted.into();
     keep_stage(stage, words);
     stage.number()

@@ -30,7 +30,7 @@ pub enum Stage {
 }
 
 impl Stage {
-    // The number that is given back: the one that ended the stream; 0 while it goes on.
+    // The number that is given back: the one that ended the stream; 0 while it goes on, as `stage_number` has it.
     #[tactic(auto, unfolding(crate::specs::Chunks::stage_number))]
     pub fn number(self) -> u32
         ensures { result ≡ stage_number self }

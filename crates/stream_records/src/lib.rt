@@ -16,7 +16,7 @@ use message_cursors::{four_bytes, two_bytes};
 use rules::Refusal;
 use stream_format::{Event, Kind, Stage};
 
-// Where a stream stands after some bytes, those that are not taken yet, and what the last one that is completed.
+// Where a stream stands after some bytes, those that are not taken yet, and what the last byte taken completes.
 #[derive(Clone, Copy)]
 pub struct Next<'a> {
     pub stage: Stage,
@@ -89,7 +89,7 @@ pub fn stage_of(kind: Kind, words: &[u32; 3], room: &[u8; 65548]) -> Stage
     }
 }
 
-// Writes a stage into the words.
+// Writes a stage into the words. That it is `Sound` stays a clause here and below: an enum has no ghost field.
 #[tactic(auto, unfolding(stream_format::specs::Kept::words_of))]
 pub fn keep_stage(stage: Stage, words: &mut [u32; 3])
     requires { Sound stage }
@@ -112,6 +112,7 @@ fn inside_record(read: u32, left: u32) -> bool
 }
 
 // Ends a stream: the number that ended it, else 17 inside a record, else 0. It stays ended by that number.
+// A number and no refusal: the words that are lent can hold any number for the end of a stream.
 #[tactic(auto, unfolding(stream_format::specs::Kept::end_stream, stream_format::specs::Kept::end_number, stream_format::specs::Kept::inside_record, stream_format::specs::Kept::is_ended, stream_format::specs::Kept::ended_word, stream_format::specs::Kept::read_word, stream_format::specs::Kept::left_word, stream_format::specs::Kept::ended_number, stream_format::specs::Kept::words_of))]
 pub fn end_stream(words: &mut [u32; 3]) -> u32
     ensures { end_stream words.old ≡ ended_as result words.new }
@@ -129,7 +130,8 @@ pub fn end_stream(words: &mut [u32; 3]) -> u32
     number
 }
 
-// Copies bytes into the room. One by one: of a copy of slices the compiler makes a call of C's memmove, which nothing needs.
+// Copies bytes into the room. One by one: of a copy of slices the compiler makes a call of C's memmove, which
+// nothing needs.
 fn keep_bytes(room: &mut [u8; 65548], from: usize, bytes: &[u8])
     requires { from + length bytes.now ≤ 65548 }
     ensures { room.new ≡ sets room.old from bytes.now }

@@ -1,15 +1,18 @@
 // The gateway table: seven calls over lent memory. Nothing is kept between calls but what is lent.
 // No call requires anything: bad input gets its number and changes nothing.
+// The calls look alike, for each is its own checks and then its own step: theorems name each of them, as
+// `add_ensures`, `withdraw_ensures`, `change_ensures`, `lookup_ensures` and `match_vector_ensures`.
 #![tactic(auto)]
 
 ghost use Rattle.std.specs.Prelude.{◌≡◌};
 ghost use Rattle.rules.specs.Numbers.{number_given, vector_given, answer_given};
 ghost use Rattle.rules.specs.Table.{lent, left, clear, add, withdraw, change, match_vector, lookup, lookup_list, answered};
 
+use filters::Filters;
 use lookups::answer_list;
 use refusals::{refuse_add, refuse_hop, refuse_list, refuse_route};
 use rules::{Lookup, Refusal, Settings};
-use settings::refuse_memory;
+use settings::{InRange, Table, refuse_memory};
 use updates::{add_checked, change_checked, withdraw_checked};
 
 // Empties the table of both parties' routes: writes zero to every byte and word.
@@ -36,7 +39,13 @@ pub fn add(
     ensures { add settings (lent counters.old slots.old) party p length hop ≡ left (number_given result) counters.new slots.new }
 {
     let (party, hop) = refuse_add(settings, counters, slots, party, p, length, hop)?;
-    add_checked(settings, counters, slots, party, p, length, hop)
+    let settings = InRange { all: settings };
+    let mut table = Table {
+        settings,
+        counters,
+        slots,
+    };
+    add_checked(&mut table, party, p, length, hop)
 }
 
 // Takes a stored route of a party's out.
@@ -51,7 +60,13 @@ pub fn withdraw(
     ensures { withdraw settings (lent counters.old slots.old) party p length ≡ left (number_given result) counters.new slots.new }
 {
     let party = refuse_route(settings, counters, slots, party, p, length)?;
-    withdraw_checked(settings, counters, slots, party, p, length)
+    let settings = InRange { all: settings };
+    let mut table = Table {
+        settings,
+        counters,
+        slots,
+    };
+    withdraw_checked(&mut table, party, p, length)
 }
 
 // Gives a stored route of a party's a new next hop.
@@ -67,7 +82,8 @@ pub fn change(
     ensures { change settings (lent counters.old slots.old) party p length hop ≡ left (number_given result) counters.new slots.new }
 {
     let (party, hop) = refuse_hop(settings, counters, slots, party, p, length, hop)?;
-    change_checked(settings, counters, slots, party, p, length, hop)
+    let settings = InRange { all: settings };
+    change_checked(&settings, counters, slots, party, p, length, hop)
 }
 
 // Which lengths' filters claim an address, whichever party's routes they hold: bit L - 1 for length L.
@@ -116,6 +132,8 @@ pub fn lookup_list(
         addresses.len(),
         results.len(),
     )?;
-    answer_list(&settings, counters, slots, party, addresses, results);
+    let settings = &InRange { all: settings };
+    let filters = Filters { settings, counters };
+    answer_list(&filters, slots, party, addresses, results);
     Ok(())
 }

@@ -33,7 +33,8 @@ fn put_number(out: &mut [u8], at: usize, n: u32) -> usize
     last + 1
 }
 
-// Puts what an update answers: ok, or the number of its refusal.
+// Puts what an update answers: ok, or the number of its refusal. Memory is fixed and lent, so the place stands beside
+// it, here and below, with a clause that there is room: `text_lines` asks for it once.
 pub fn put_outcome(out: &mut [u8], at: usize, outcome: Result<(), Refusal>) -> usize
     requires { at + 33 ≤ length out.old }
     ensures { PutWithin 33 out.old at (update_text (number_given outcome)) out.new result }

@@ -1,29 +1,27 @@
 // The match vector: which lengths' filters claim an address.
 #![tactic(auto)]
 
-ghost use Rattle.std.specs.Prelude.{◌≡◌, true};
-ghost use Rattle.rules.specs.Table.{in_range, vector_of};
-ghost use Rattle.rules.specs.Ready.{Counters};
+ghost use Rattle.std.specs.Prelude.{◌≡◌};
+ghost use Rattle.rules.specs.Table.{vector_of};
 
-use filters::{claims_prefix, filter_size};
-use rules::Settings;
+use filters::{Filters, filter_size};
+use settings::Length;
 
 // The vector of an address: bit L - 1 is set exactly if the filter of length L claims its prefix. A step
 // down to the next shorter length clears one bit of the prefix, 2^(32 - L), and leads to the filter that lies
 // just before.
-pub fn vector_of(settings: &Settings, counters: &[u8], address: u32) -> u32
-    requires range { in_range settings.now ≡ true }
-    requires counters { Counters settings.now counters.now }
-    ensures { result ≡ vector_of settings.now counters.now address }
+pub fn vector_of(filters: &Filters, address: u32) -> u32
+    ensures { result ≡ vector_of filters.now.settings.now.all filters.now.counters.now address }
 {
     let mut vector = 0;
     let mut p = address;
     let mut bit: u32 = 1;
-    let mut start = counters.len();
-    for length in (1..=32).rev() {
-        start -= filter_size(settings.d[(length - 1) as usize]) as usize;
-        if claims_prefix(settings, counters, p, length, start) {
-            vector |= 1 << (length - 1);
+    let mut start = filters.counters.len();
+    // By its number, since bit and prefix go with it as the D does.
+    for number in (1..=32).rev() {
+        start -= filter_size(filters.settings.all.d[(number - 1) as usize]) as usize;
+        if filters.claims_prefix(p, Length { number }, start) {
+            vector |= 1 << (number - 1);
         }
         p &= !bit;
         bit <<= 1;

@@ -125,9 +125,7 @@ pub fn put_words<T: Cell>(list: &mut [T], at: usize, words: &[u32])
     requires { at + T.WIDE * length words.now ≤ length list.old }
     ensures { list.new ≡ sets list.old at (T.cells words.now) }
 {
-    let mut place = at;
-    for word in words {
-        T::put_word(list, place, *word);
-        place += T::WIDE;
+    for (i, word) in words.iter().enumerate() {
+        T::put_word(list, at + T::WIDE * i, *word);
     }
 }

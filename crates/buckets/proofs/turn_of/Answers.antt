@@ -16,12 +16,12 @@ longest_is v claimed fits =
 
 pub overflow_sub-left-2 : goal.overflow_sub-left-2
 overflow_sub-left-2 c =
-    let longest = longest_is c.args.lengths c.requires.some_left (omega arith) in
+    let longest = longest_is c.args.lengths c.requires (omega arith) in
     rw (one_bit _ longest.low longest.high) longest.reached
 
 pub returns : goal.returns
 returns c =
-    let longest = longest_is c.args.lengths c.requires.some_left (omega arith) in
+    let longest = longest_is c.args.lengths c.requires (omega arith) in
     record {
       longest = longest;
       own = c.prefix_of-p.ensures;

@@ -29,16 +29,24 @@ returns-then-addresses-ne0 c =
     (sym (let_by (list_passing _ _ _ _ _) (c.in_ok-whose.ensures.refusal m refl (sym c.word_count.ensures)) refl _ ∙ simp (ne_eqb _ _ c.if-addresses-ne0.true)))
     (suc-ne-zero 17)
 
+pub invariant_of-settings : goal.invariant_of-settings
+invariant_of-settings c =
+    let a = c.args in
+    let passed = list_passed (length a.addresses.now) (length a.results.now) a.settings.now a.counters.now (words a.slots.now) a.party 0 (sym (c.in_ok-whose.ensures.refusal (lent a.counters.now (words a.slots.now)) refl (sym c.word_count.ensures))) in
+    record { range = passed.0.memory.range }
+
+pub invariant_of-filters : goal.invariant_of-filters
+invariant_of-filters c =
+    let a = c.args in
+    let passed = list_passed (length a.addresses.now) (length a.results.now) a.settings.now a.counters.now (words a.slots.now) a.party 0 (sym (c.in_ok-whose.ensures.refusal (lent a.counters.now (words a.slots.now)) refl (sym c.word_count.ensures))) in
+    record { sized = record { size = passed.0.memory.counters_fit } }
+
 pub answer_list-requires : goal.answer_list-requires
 answer_list-requires c =
     let a = c.args in
-    let m = lent a.counters.now (words a.slots.now) in
-    let passed = list_passed (length a.addresses.now) (length a.results.now) a.settings.now a.counters.now (words a.slots.now) a.party 0 (sym (c.in_ok-whose.ensures.refusal m refl (sym c.word_count.ensures))) in
-    let fit = passed.0.memory in
+    let passed = list_passed (length a.addresses.now) (length a.results.now) a.settings.now a.counters.now (words a.slots.now) a.party 0 (sym (c.in_ok-whose.ensures.refusal (lent a.counters.now (words a.slots.now)) refl (sym c.word_count.ensures))) in
     record {
-      settings_value = fit.range;
-      counters = record { size = fit.counters_fit };
-      slots = record { size = fit.slots_fit };
+      slots = record { size = passed.0.memory.slots_fit };
       whole = omega (arith, count_whole a.addresses.now c.if-addresses-ne0.false, c.if-addresses-ne0.false);
       results_len = passed.1;
     }

@@ -13,12 +13,22 @@ returns-in_err-party-clause-refusal g c =
 pub invariant_of-first : goal.invariant_of-first
 invariant_of-first g c =
     let f = tables_passed _ _ _ _ _ _ _ _ (sym c.in_ok-party.ensures.refusal) in
-    record { range = f.0.range; sized = record { size = f.0.slots_fit } }
+    record { range = f.0.range }
 
 pub invariant_of-second : goal.invariant_of-second
 invariant_of-second g c =
     let f = tables_passed _ _ _ _ _ _ _ _ (sym c.in_ok-party.ensures.refusal) in
-    record { range = f.1.memory.range; sized = record { size = f.1.memory.slots_fit } }
+    record { range = f.1.memory.range }
+
+pub invariant_of-first-2 : goal.invariant_of-first-2
+invariant_of-first-2 g c =
+    let f = tables_passed _ _ _ _ _ _ _ _ (sym c.in_ok-party.ensures.refusal) in
+    record { sized = record { size = f.0.slots_fit } }
+
+pub invariant_of-second-2 : goal.invariant_of-second-2
+invariant_of-second-2 g c =
+    let f = tables_passed _ _ _ _ _ _ _ _ (sym c.in_ok-party.ensures.refusal) in
+    record { sized = record { size = f.1.memory.slots_fit } }
 
 pub returns-then-list-WIDE-clause-refusal : goal.returns-then-list-WIDE-clause-refusal
 returns-then-list-WIDE-clause-refusal g c =

@@ -9,6 +9,6 @@ abbrev pub invariant-loop-i : goal.invariant-loop-i
 invariant-loop-i g l =
     let words = g.T.Cell.words in
     let now = l.i-iterator.iter in
-    Listed g.T.Cell.cells (between l.fn.first.settings (words l.fn.first.slots.now) l.fn.second.settings (words l.fn.second.slots.now) (party_number l.fn.party)) l.initial.list
-    (left (has now.first.now.settings (words now.first.now.slots.now) (party_number now.party)) (has now.second.now.settings (words now.second.now.slots.now) (party_number now.party)) now.length now.walk)
+    Listed g.T.Cell.cells (between l.fn.first.settings.now.all (words l.fn.first.slots.now) l.fn.second.settings.now.all (words l.fn.second.slots.now) (party_number l.fn.party)) l.initial.list
+    (left (has now.first.now.settings.now.all (words now.first.now.slots.now) (party_number now.party)) (has now.second.now.settings.now.all (words now.second.now.slots.now) (party_number now.party)) now.length now.walk)
     l.i-iterator.count l.list

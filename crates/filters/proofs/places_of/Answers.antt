@@ -5,17 +5,17 @@ use Rattle.filters.proofs.Hashing.{all_left, one_written, all_written}
 use Rattle.filters.proofs.places_of.Goals as goal
 
 pub slice_bounds-places-end : goal.slice_bounds-places-end
-slice_bounds-places-end c = (ranges _ c.requires.range).k_high
+slice_bounds-places-end c = (ranges _ c.args.settings.now.range).k_high
 
 pub slice_bounds-place-items-end : goal.slice_bounds-place-items-end
-slice_bounds-place-items-end c = sym (length-take-le _ _ (ranges _ c.requires.range).k_high)
+slice_bounds-place-items-end c = sym (length-take-le _ _ (ranges _ c.args.settings.now.range).k_high)
 
 pub loop-place-init : goal.loop-place-init
 loop-place-init c =
     let a = c.args in
     record {
-      size = length-take-le _ _ (ranges _ c.requires.range).k_high;
-      ends = all_left a.settings.now a.length _ a.p c.growth_of-growth.ensures c.product-g.ensures;
+      size = length-take-le _ _ (ranges _ c.args.settings.now.range).k_high;
+      ends = all_left a.settings.now.all a.length.number _ a.p c.growth_of-growth.ensures c.product-g.ensures;
     }
 
 pub loop-place-preserved : goal.loop-place-preserved

@@ -3,4 +3,4 @@ use Rattle.filters.proofs.Hashing.{Written}
 use Rattle.filters.proofs.places_of.Given as goal
 
 abbrev pub invariant-loop-place : goal.invariant-loop-place
-invariant-loop-place l = Written l.settings l.p l.length l.growth l.place-items l.place-index l.g
+invariant-loop-place l = Written l.settings.all l.p l.length.number l.growth l.place-items l.place-index l.g

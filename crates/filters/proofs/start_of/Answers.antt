@@ -9,6 +9,7 @@ use Rattle.rules.specs.declared.Settings.{Settings}
 use Rattle.rules.specs.Table.{filters_size, filter_start}
 use Rattle.rules.specs.Ready.{Ready}
 use Rattle.rules.proofs.Placing.{bits_listed, filter_bits_high, filter_fits, counters_few}
+use Rattle.settings.proofs.Readiness.{ready}
 use Rattle.filters.proofs.start_of.Goals as goal
 
 -- the filters of a list have together as many counters as the sum has
@@ -29,20 +30,20 @@ module _ (t : Settings) (L : ℕ) (its : Ready t L) where
 
 pub sum-requires-clause-can : goal.sum-requires-clause-can
 sum-requires-clause-can c =
-    let each : All (λ D. D ≤ 11) (take (c.args.length - 1) c.args.settings.now.d) = few _ _ c.requires in (
+    let each : All (λ D. D ≤ 11) (take (c.args.length.number - 1) c.args.settings.now.all.d) = few _ _ (ready c.args.settings.now c.args.length) in (
       tt,
-      serves_from_places (YieldsList-from_slice (take (c.args.length - 1) c.args.settings.now.d) cc) (λ x q k. search rules) (λ x k less is.
+      serves_from_places (YieldsList-from_slice (take (c.args.length.number - 1) c.args.settings.now.all.d) cc) (λ x q k. search rules) (λ x k less is.
           let small : x.now ≤ 11 = omega (arith, is, each k x.now less) in search rules),
     )
 
 pub sum-requires-clause-fits : goal.sum-requires-clause-fits
 sum-requires-clause-fits c =
-    let each : All (λ D. D ≤ 11) (take (c.args.length - 1) c.args.settings.now.d) = few _ _ c.requires in
-    let all : sum_by (λ D. 2 ^ D) (take (c.args.length - 1) c.args.settings.now.d) < 2 ^ 32 = fits _ _ c.requires in
+    let each : All (λ D. D ≤ 11) (take (c.args.length.number - 1) c.args.settings.now.all.d) = few _ _ (ready c.args.settings.now c.args.length) in
+    let all : sum_by (λ D. 2 ^ D) (take (c.args.length.number - 1) c.args.settings.now.all.d) < 2 ^ 32 = fits _ _ (ready c.args.settings.now c.args.length) in
     search rules
 
 pub returns : goal.returns
 unfolding filter_start
 returns c =
-    let all : c.sum.result ≡ sum_by (λ D. 2 ^ D) (take (c.args.length - 1) c.args.settings.now.d) = search rules in
+    let all : c.sum.result ≡ sum_by (λ D. 2 ^ D) (take (c.args.length.number - 1) c.args.settings.now.all.d) = search rules in
     all ∙ sym (summed _)

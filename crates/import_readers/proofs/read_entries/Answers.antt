@@ -19,9 +19,6 @@ ends bytes at size e = ap (λ (size : ℕ). at + 8 + size) e
 pub loop-init : goal.loop-init
 loop-init c = let all : c.args.many - 0 ≡ c.args.many = omega arith in rw all (begun _ _ _ _ c.requires)
 
-pub overflow_sub-bytes : goal.overflow_sub-bytes
-overflow_sub-bytes c = c.loop.invariant.inside
-
 pub returns-then-bytes-at-lt8 : goal.returns-then-bytes-at-lt8
 returns-then-bytes-at-lt8 c =
     sym (over c.loop.invariant (omega (arith, c.loop-test.true)) (omega (arith, entry_later c.args.bytes.now c.loop.at, c.if-bytes-at-lt8.true)))

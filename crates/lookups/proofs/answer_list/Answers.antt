@@ -11,9 +11,9 @@ loop-i-init g c = listing_none g.met.T.Cell.cells_none
 
 pub loop-i-preserved : goal.loop-i-preserved
 loop-i-preserved g c =
-    let checked : PartyFitted c.args.settings.now c.args.counters.now (g.T.Cell.words c.args.slots.now) (party_number c.args.party) =
+    let checked : PartyFitted c.args.filters.now.settings.now.all c.args.filters.now.counters.now (g.T.Cell.words c.args.slots.now) (party_number c.args.party) =
     record {
-      memory = record { range = c.requires.settings_value; counters_fit = c.requires.counters.size; slots_fit = c.requires.slots.size };
+      memory = record { range = c.args.filters.now.settings.now.range; counters_fit = c.args.filters.now.sized.size; slots_fit = c.requires.slots.size };
       known = party_low c.args.party;
     } in
     let looked_up = by_vector _ _ _ _ _ _ checked c.vector_of-claimed.ensures in

@@ -13,17 +13,20 @@ returns-in_err-whose g c =
     let m = lent c.args.counters.now (g.T.Cell.words c.args.slots.now) in
     rw (p.1, p.2) (stopped _ m _ _ _ (c.in_err-whose.ensures.refusal m refl (sym c.word_count.ensures)))
 
-pub vector_of-claimed-requires : goal.vector_of-claimed-requires
-vector_of-claimed-requires g c =
+pub invariant_of-settings : goal.invariant_of-settings
+invariant_of-settings g c =
     let m = lent c.args.counters.now (g.T.Cell.words c.args.slots.now) in
-    let fitted = party_passed _ _ _ _ _ (sym (c.in_ok-whose.ensures.refusal m refl (sym c.word_count.ensures))) in
-    record { range = fitted.0.memory.range; counters = record { size = fitted.0.memory.counters_fit } }
+    record { range = (party_passed _ _ _ _ _ (sym (c.in_ok-whose.ensures.refusal m refl (sym c.word_count.ensures)))).0.memory.range }
 
-pub answer_address-requires : goal.answer_address-requires
-answer_address-requires g c =
+pub invariant_of-vector_of : goal.invariant_of-vector_of
+invariant_of-vector_of g c =
     let m = lent c.args.counters.now (g.T.Cell.words c.args.slots.now) in
-    let fitted = party_passed _ _ _ _ _ (sym (c.in_ok-whose.ensures.refusal m refl (sym c.word_count.ensures))) in
-    record { settings_value = fitted.0.memory.range; slots = record { size = fitted.0.memory.slots_fit } }
+    record { sized = record { size = (party_passed _ _ _ _ _ (sym (c.in_ok-whose.ensures.refusal m refl (sym c.word_count.ensures)))).0.memory.counters_fit } }
+
+pub invariant_of-stored : goal.invariant_of-stored
+invariant_of-stored g c =
+    let m = lent c.args.counters.now (g.T.Cell.words c.args.slots.now) in
+    record { sized = record { size = (party_passed _ _ _ _ _ (sym (c.in_ok-whose.ensures.refusal m refl (sym c.word_count.ensures)))).0.memory.slots_fit } }
 
 pub returns : goal.returns
 returns g c =

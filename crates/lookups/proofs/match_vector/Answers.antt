@@ -14,11 +14,15 @@ returns-in_err-refuse_sizes g c =
     let m = lent c.args.counters.now (g.T.Cell.words c.args.slots.now) in
     rw (p.1, p.2, ← c.in_err-refuse_sizes.ensures m refl (sym c.word_count.ensures), ne_eqb _ _ (refusal_nonzero c.in_err-refuse_sizes.field-0.0))
 
-pub vector_of-requires : goal.vector_of-requires
-vector_of-requires g c =
+pub invariant_of-settings : goal.invariant_of-settings
+invariant_of-settings g c =
     let m = lent c.args.counters.now (g.T.Cell.words c.args.slots.now) in
-    let fitted = memory_passed _ _ _ _ (sym (c.in_ok-refuse_sizes.ensures m refl (sym c.word_count.ensures))) in
-    record { range = fitted.0.range; counters = record { size = fitted.0.counters_fit } }
+    record { range = (memory_passed _ _ _ _ (sym (c.in_ok-refuse_sizes.ensures m refl (sym c.word_count.ensures)))).0.range }
+
+pub invariant_of-vector_of : goal.invariant_of-vector_of
+invariant_of-vector_of g c =
+    let m = lent c.args.counters.now (g.T.Cell.words c.args.slots.now) in
+    record { sized = record { size = (memory_passed _ _ _ _ (sym (c.in_ok-refuse_sizes.ensures m refl (sym c.word_count.ensures)))).0.counters_fit } }
 
 pub returns : goal.returns
 unfolding match_vector

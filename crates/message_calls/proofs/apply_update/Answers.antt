@@ -4,14 +4,14 @@ use native.Mathlib.Omega.{arith}
 use Rattle.message_calls.proofs.Whole.{faulty, hopless, parts_lie, both_done}
 use Rattle.message_calls.proofs.apply_update.Goals as goal
 
-pub returns-in_err-read : goal.returns-in_err-read
-returns-in_err-read c = grind (arith, faulty)
+pub returns-in_err-read-clause-done : goal.returns-in_err-read-clause-done
+returns-in_err-read-clause-done c = grind (arith, faulty)
 
-pub returns-in_err-hop : goal.returns-in_err-hop
-returns-in_err-hop c = grind (arith, hopless)
+pub returns-in_err-hop-clause-done : goal.returns-in_err-hop-clause-done
+returns-in_err-hop-clause-done c = grind (arith, hopless)
 
-pub apply_parts-requires-clause-apart : goal.apply_parts-requires-clause-apart
-apply_parts-requires-clause-apart c = parts_lie _ (sym c.in_ok-read.ensures)
+pub apply_parts-requires : goal.apply_parts-requires
+apply_parts-requires c = parts_lie _ (sym c.in_ok-read.ensures)
 
-pub returns : goal.returns
-returns c = both_done _ _ _ _ _ _ (sym c.in_ok-read.ensures) c.hop_due.ensures c.in_ok-hop.ensures.value c.apply_parts.ensures
+pub returns-clause-done : goal.returns-clause-done
+returns-clause-done c = both_done _ _ _ _ _ _ (sym c.in_ok-read.ensures) c.hop_due.ensures c.in_ok-hop.ensures.value c.apply_parts.ensures.done

@@ -5,7 +5,6 @@ use mathlib.Core.Bool.{true}
 use native.Mathlib.Nat.{mod-eq_of_lt, mul-le-mul}
 use native.Mathlib.Omega.{arith}
 use lib.Pow.{pow_mono}
-use borrow.Author.Rules.{rules}
 use Rattle.rules.specs.declared.Settings.{Settings}
 use Rattle.rules.proofs.Placing.{ranges}
 use Rattle.rules.specs.Table.{in_range, slots_size}
@@ -18,21 +17,15 @@ module _ (t : Settings) (ready : in_range t ≡ true) where
   bounded : 64 * 2 ^ t.e * t.s ≤ 131072
   bounded = mul-le-mul {n₂ = 16384} (omega (arith, pow_mono (ranges t ready).e_high)) (ranges t ready).s_high
 
-pub overflow_cast-result : goal.overflow_cast-result
-overflow_cast-result c = search rules
-
 pub overflow_shl-result : goal.overflow_shl-result
-overflow_shl-result c = omega (arith, ranges _ c.requires)
-
-pub overflow_cast-result-2 : goal.overflow_cast-result-2
-overflow_cast-result-2 c = search rules
+overflow_shl-result c = omega (arith, ranges _ c.args.settings.now.range)
 
 pub overflow_mul-result : goal.overflow_mul-result
-overflow_mul-result c = let t = c.before in rw (shifted _ t.requires) (omega (arith, bounded _ t.requires))
+overflow_mul-result c = let t = c.before in rw (shifted _ t.args.settings.now.range) (omega (arith, bounded _ t.args.settings.now.range))
 
 pub overflow_add-result : goal.overflow_add-result
-overflow_add-result c = let t = c.before in rw (shifted _ t.requires) (omega (arith, bounded _ t.requires))
+overflow_add-result c = let t = c.before in rw (shifted _ t.args.settings.now.range) (omega (arith, bounded _ t.args.settings.now.range))
 
 pub returns : goal.returns
 unfolding slots_size
-returns c = rw (shifted _ c.requires)
+returns c = rw (shifted _ c.args.settings.now.range)

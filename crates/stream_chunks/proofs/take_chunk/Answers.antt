@@ -45,13 +45,18 @@ take_records-stage-requires g c =
     let laws = g.met.R.Reader in
     let good = chunk_accepted _ _ _ _ _ _ (sym c.refuse_chunk.ensures.refusal ∙ accepted_number c.in-Ok.is) in
     record {
-      settings_value = good.memory.range;
-      counters = record { size = good.memory.counters_fit };
-      slots = record { size = good.memory.slots_fit };
       low = rw (laws.taken_up a.reader.now a.party _ _ c.from-counted.ensures) (laws.begins a.reader.now a.party a.counts.now (sym c.any_high-high.ensures ∙ good.low));
       sound = c.stage_of-begun.ensures.sound;
       chunk_len_bound = good.short;
     }
+
+pub invariant_of-settings : goal.invariant_of-settings
+invariant_of-settings g c = record { range = (chunk_accepted _ _ _ _ _ _ (sym c.refuse_chunk.ensures.refusal ∙ accepted_number c.in-Ok.is)).memory.range }
+
+pub invariant_of-table : goal.invariant_of-table
+invariant_of-table g c =
+    let fit = (chunk_accepted _ _ _ _ _ _ (sym c.refuse_chunk.ensures.refusal ∙ accepted_number c.in-Ok.is)).memory in
+    record { counters_fit = record { size = fit.counters_fit }; slots_fit = record { size = fit.slots_fit } }
 
 -- what the records did is all that the chunk does
 finished : {C : Type 0} (t : Settings) (r : Reading C) (counters slots counts words room chunk : List ℕ) {begun stage : Stage} {earlier counted : C} {room' counters' slots' : List ℕ}
@@ -71,6 +76,7 @@ returns g c =
     let party : party_number c.in-Ok.party ≡ a.party = c.in-Ok.ensures.known in
     let begun : c.stage_of-begun.result ≡ stage_of r.kind a.words.now a.room.now = rw (c.kind.ensures a.party) at c.stage_of-begun.ensures.value in
     let good : 0 ≡ chunk_refusal a.settings (lent a.counters.now a.slots.now) r.party (r.counts_high (r.counts_of a.counts.now)) a.chunk.now = refusal a.settings (lent a.counters.now a.slots.now) r a.party a.counts.now a.chunk.now (laws.names_party a.reader.now a.party) (laws.any_high a.reader.now a.party a.counts.now c.told-counts) c.any_high-high.ensures c.in-Ok.ensures.refusal in
-    let did : chunk_taken r.kind (doing a.settings r) (stream c.stage_of-begun.result a.room.now (work c.from-counted.result a.counters.now a.slots.now)) a.chunk.now ≡ stream c.take_records-stage.result c.take_records-stage.new.room (work c.take_records-stage.new.counts c.take_records-stage.new.counters c.take_records-stage.new.slots) = rw party at c.take_records-stage.ensures.taken in
-    finished a.settings r a.counters.now a.slots.now a.counts.now a.words.now a.room.now a.chunk.now begun c.in_default.not-Ended good (laws.taken_up a.reader.now a.party a.counts.now c.from-counted.result c.from-counted.ensures) did
-    c.number-2.ensures (laws.written a.reader.now a.party c.into.result c.take_records-stage.new.counts c.into.ensures) c.keep_stage.ensures
+    let did : chunk_taken r.kind (doing a.settings r) (stream c.stage_of-begun.result a.room.now (work c.from-counted.result a.counters.now a.slots.now)) a.chunk.now ≡ stream c.take_records-stage.result c.take_records-stage.new.room (work c.take_records-stage.new.counts c.take_records-stage.new.table.counters.now c.take_records-stage.new.table.slots.now) = rw party at c.take_records-stage.ensures.taken in
+    let all = finished a.settings r a.counters.now a.slots.now a.counts.now a.words.now a.room.now a.chunk.now begun c.in_default.not-Ended good (laws.taken_up a.reader.now a.party a.counts.now c.from-counted.result c.from-counted.ensures) did
+    c.number-2.ensures (laws.written a.reader.now a.party c.into.result c.take_records-stage.new.counts c.into.ensures) c.keep_stage.ensures in
+    search rules

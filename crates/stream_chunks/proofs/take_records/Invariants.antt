@@ -2,6 +2,7 @@
 use mathlib.Core.Path.{◌≡◌}
 use lib.ListN.{length}
 use Rattle.rules.specs.Numbers.{party_number}
+use Rattle.settings.specs.Tables.{Same}
 use Rattle.stream_format.specs.Streams.{stream, chunk_taken}
 use Rattle.stream_format.specs.Chunks.{doing}
 use Rattle.stream_chunks.specs.Work.{work}
@@ -12,9 +13,8 @@ abbrev pub invariant-loop-stage : goal.invariant-loop-stage
 invariant-loop-stage g l =
     let r = g.R.Reader.reading l.reader (party_number l.party) in
     record {
-      going : Going l.settings r g.R.Reader.Low l.chunk (chunk_taken r.kind (doing l.settings r) (stream l.initial.stage l.initial.room (work l.initial.counts l.initial.counters l.initial.slots)) l.chunk) l.stage l.room l.counts l.counters l.slots l.rest;
-      counters_stay : length l.counters ≡ length l.initial.counters;
-      slots_stay : length l.slots ≡ length l.initial.slots;
+      same : Same l.fn.table l.table;
+      going : Going l.fn.table.settings.all r g.R.Reader.Low l.chunk (chunk_taken r.kind (doing l.fn.table.settings.all r) (stream l.initial.stage l.initial.room (work l.initial.counts l.fn.table.counters.now l.fn.table.slots.now)) l.chunk) l.stage l.room l.counts l.table.counters.now l.table.slots.now l.rest;
       kind_is : l.kind ≡ r.kind;
     }
 

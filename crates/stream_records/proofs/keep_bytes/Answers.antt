@@ -1,7 +1,7 @@
 -- So many of the bytes stand in the room; each turn stores one more.
-use mathlib.Core.Path.{refl, ◌∙◌}
+use mathlib.Core.Path.{refl}
 use native.Mathlib.Numerals.{add-one}
-use lib.Seq.{take-suc, take_all, length-take-le}
+use lib.Seq.{take-suc, length-take-le}
 use Rattle.stream_records.proofs.Runs.{sets_more}
 use Rattle.stream_records.proofs.keep_bytes.Goals as goal
 
@@ -9,6 +9,3 @@ pub loop-i-preserved : goal.loop-i-preserved
 loop-i-preserved c =
     let a = c.args in
     rw (add-one, take-suc a.bytes.now c.loop-i.i 0 c.loop-i-test.true, sets_more, length-take-le c.loop-i.i a.bytes.now c.loop-i.auto.i-end, ← c.loop-i.invariant) refl
-
-pub returns : goal.returns
-returns c = c.loop-i.invariant ∙ rw (take_all c.loop-i.i c.args.bytes.now c.loop-i-test.false) refl

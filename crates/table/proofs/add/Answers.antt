@@ -12,7 +12,15 @@ returns-in_err-party c =
     let handed = err_from_is_err_and c.from_residual.result c.from_residual.ensures.1 in
     add_refused _ _ _ _ _ _ (refused_number handed.1) _ (handed_on (add_passing _ _ _ _ _ _) handed c.in_err-party.ensures.refusal _)
 
+pub invariant_of-settings : goal.invariant_of-settings
+invariant_of-settings c = record { range = (checks_passed _ _ _ _ _ _ _ 0 (sym c.in_ok-party.ensures.refusal)).0.fitted.route.memory.range }
+
+pub invariant_of-table : goal.invariant_of-table
+invariant_of-table c =
+    let fit = (checks_passed _ _ _ _ _ _ _ 0 (sym c.in_ok-party.ensures.refusal)).0.fitted.route.memory in
+    record { counters_fit = record { size = fit.counters_fit }; slots_fit = record { size = fit.slots_fit } }
+
 pub add_checked-requires : goal.add_checked-requires
 add_checked-requires c =
     let passed = (checks_passed _ _ _ _ _ _ _ 0 (sym c.in_ok-party.ensures.refusal)).0 in
-    record { checked = rw c.in_ok-party.ensures.known (checked passed.fitted.route); not_odd = passed.not_odd }
+    record { checked = checked passed.fitted.route; not_odd = passed.not_odd }

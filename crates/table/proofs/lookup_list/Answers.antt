@@ -15,18 +15,21 @@ returns-in_err-party c =
     let handed = err_from_is_err_and c.from_residual.result c.from_residual.ensures.1 in
     refused_list _ _ _ (handed_on (list_passing _ _ _ _ _) handed (c.in_err-party.ensures.refusal m refl refl) _) (refused_number handed.1)
 
+pub invariant_of-settings : goal.invariant_of-settings
+invariant_of-settings c =
+    let a = c.args in
+    record { range = (list_passed _ _ _ a.counters.now a.slots.now a.party 0 (sym (c.in_ok-party.ensures.refusal (lent a.counters.now a.slots.now) refl refl))).0.memory.range }
+
+pub invariant_of-filters : goal.invariant_of-filters
+invariant_of-filters c =
+    let a = c.args in
+    record { sized = record { size = (list_passed _ _ _ a.counters.now a.slots.now a.party 0 (sym (c.in_ok-party.ensures.refusal (lent a.counters.now a.slots.now) refl refl))).0.memory.counters_fit } }
+
 pub answer_list-requires : goal.answer_list-requires
 answer_list-requires c =
     let a = c.args in
     let passed = list_passed _ _ _ a.counters.now a.slots.now a.party 0 (sym (c.in_ok-party.ensures.refusal (lent a.counters.now a.slots.now) refl refl)) in
-    let fit = passed.0.memory in
-    record {
-      settings_value = fit.range;
-      counters = record { size = fit.counters_fit };
-      slots = record { size = fit.slots_fit };
-      whole = omega arith;
-      results_len = passed.1;
-    }
+    record { slots = record { size = passed.0.memory.slots_fit }; whole = omega arith; results_len = passed.1 }
 
 pub returns : goal.returns
 unfolding lookup_list

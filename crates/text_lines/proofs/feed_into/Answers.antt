@@ -1,7 +1,6 @@
 -- `text_lines::feed_into` meets its contract. The invariant: what lies in lent memory is the stream after the bytes passed, and each of the three ways of a turn is one law of `Streams`.
 use mathlib.Core.Bool.{false}
 use native.Mathlib.Omega.{arith}
-use lib.Seq.{length-take-le}
 use Rattle.rules.specs.Tools.{fed}
 use Rattle.text_lines.specs.Lines.{feed}
 use Rattle.text_lines.proofs.Streams.{feed_more, lies_going, lies_ended, lies_kept, lies_left_out}
@@ -16,11 +15,6 @@ loop-b-init c =
       short = omega arith;
       lies = lies_going false _ _ _ _;
     }
-
-pub slice_bounds-answer_into-end : goal.slice_bounds-answer_into-end
-slice_bounds-answer_into-end c =
-    let l = c.loop-b in
-    omega (arith, length-take-le l.count l.line (omega arith))
 
 pub loop-b-preserved : goal.loop-b-preserved
 loop-b-preserved c =

@@ -12,12 +12,12 @@ use Rattle.vectors.proofs.vector_of.Invariants.{claimed}
 use Rattle.vectors.proofs.vector_of.Goals as goal
 use Rattle.vectors.proofs.vector_of.Goals.{then-claims_prefix, else-claims_prefix}
 
-pub loop-length-init : goal.loop-length-init
-loop-length-init c =
+pub loop-number-init : goal.loop-number-init
+loop-number-init c =
     record {
       cut = sym (prefix_32 _);
       its_bit = refl;
-      ends = c.requires.counters.size ∙ filter_after_32 _ c.requires.range;
+      ends = c.args.filters.now.sized.size ∙ filter_after_32 _ c.args.filters.now.settings.now.range;
       so_far = sym (none_filled _);
     }
 
@@ -37,32 +37,32 @@ module _ (t : Settings) (L : ℕ) (range : in_range t ≡ true) (low : 1 ≤ L) 
       (omega arith, omega arith)
 
 pub filter_size-requires : goal.filter_size-requires
-filter_size-requires c = few _ _ c.requires.range c.loop-length-test.true c.loop-length.auto.length
+filter_size-requires c = few _ _ c.args.filters.now.settings.now.range c.loop-number-test.true c.loop-number.auto.number
 
 pub overflow_sub-start : goal.overflow_sub-start
-overflow_sub-start c = (begins _ _ c.requires.range c.loop-length-test.true c.loop-length.auto.length _ _ c.loop-length.invariant.ends c.filter_size.ensures).0
+overflow_sub-start c = (begins _ _ c.args.filters.now.settings.now.range c.loop-number-test.true c.loop-number.auto.number _ _ c.loop-number.invariant.ends c.filter_size.ensures).0
 
-pub claims_prefix-requires-clause-begins : goal.claims_prefix-requires-clause-begins
-claims_prefix-requires-clause-begins c =
-    (begins _ _ c.requires.range c.loop-length-test.true c.loop-length.auto.length _ _ c.loop-length.invariant.ends c.filter_size.ensures).1
+pub claims_prefix-requires : goal.claims_prefix-requires
+claims_prefix-requires c =
+    (begins _ _ c.args.filters.now.settings.now.range c.loop-number-test.true c.loop-number.auto.number _ _ c.loop-number.invariant.ends c.filter_size.ensures).1
 
 -- what the filter of the length says of the address
 told : (t : Settings) (counters : List ℕ) (address L p : ℕ) (answer : Bool) → p ≡ prefix address L → answer ≡ claims t counters p L
     → claimed t counters address L ≡ answer
 told t counters address L p answer cut is = ap (λ (p : ℕ). claims t counters p L) (sym cut) ∙ sym is
 
-pub loop-length-preserved : goal.loop-length-preserved
-loop-length-preserved c =
-    let at = c.loop-length in
-    let L = at.length in
-    let low : 1 ≤ L = c.loop-length-test.true in
-    let high : L ≤ 32 = at.auto.length in
+pub loop-number-preserved : goal.loop-number-preserved
+loop-number-preserved c =
+    let at = c.loop-number in
+    let L = at.number in
+    let low : 1 ≤ L = c.loop-number-test.true in
+    let high : L ≤ 32 = at.auto.number in
     let its = at.invariant.its_bit ∙ mod-eq_of_lt (pow-lt {i = 32 - L} {j = 32} (omega (arith, low))) in
     record {
       cut = rw (at.invariant.cut, its) (prefix_next _ L low high c.ranges.address.fits);
       its_bit = rw (its, ← pow-add 2 (32 - L) 1) (ap (λ (n : ℕ). 2 ^ n % 2 ^ 32) (omega (arith, low, high)));
       ends =
-          (begins _ _ c.requires.range low high _ _ at.invariant.ends c.filter_size.ensures).1
+          (begins _ _ c.args.filters.now.settings.now.range low high _ _ at.invariant.ends c.filter_size.ensures).1
           ∙ ap (filter_start _) (omega (arith, low));
       so_far =
           elim c.if-claims_prefix.branch [
@@ -74,5 +74,5 @@ loop-length-preserved c =
 pub returns : goal.returns
 unfolding vector_of
 returns c =
-    let none : c.loop-length.length ≡ 0 = omega (arith, c.loop-length-test.false) in
-    c.loop-length.invariant.so_far ∙ ap (filled (claimed _ _ _)) none ∙ all_filled _
+    let none : c.loop-number.number ≡ 0 = omega (arith, c.loop-number-test.false) in
+    c.loop-number.invariant.so_far ∙ ap (filled (claimed _ _ _)) none ∙ all_filled _

@@ -18,5 +18,5 @@ pub record Turn (t : Settings) (counters : List ℕ) (address vector p bit start
   pub ends : start ≡ filter_start t (suc length)
   pub so_far : vector ≡ filled (claimed t counters address) length
 
-abbrev pub invariant-loop-length : goal.invariant-loop-length
-invariant-loop-length l = Turn l.settings l.counters l.address l.vector l.p l.bit l.start l.length
+abbrev pub invariant-loop-number : goal.invariant-loop-number
+invariant-loop-number l = Turn l.filters.settings.now.all l.filters.counters.now l.address l.vector l.p l.bit l.start l.number

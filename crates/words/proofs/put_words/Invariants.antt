@@ -2,5 +2,5 @@
 use Rattle.words.proofs.Stores.{Put}
 use Rattle.words.proofs.put_words.Given as goal
 
-abbrev pub invariant-loop-word : goal.invariant-loop-word
-invariant-loop-word g l = Put g.T.Cell.cells g.T.Cell.WIDE l.initial.list l.at l.words l.list l.place l.word-index
+abbrev pub invariant-loop-i : goal.invariant-loop-i
+invariant-loop-i g l = Put g.T.Cell.cells l.initial.list l.at l.words l.list l.i

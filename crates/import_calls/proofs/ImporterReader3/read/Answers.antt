@@ -2,36 +2,27 @@
 use mathlib.Core.Path.{◌≡◌, sym, ◌∙◌}
 use borrow.Author.Rules.{rules}
 use Rattle.std.specs.Prelude.{None, Some, Ok, Err}
-use Rattle.rules.proofs.Numbers.{party_low}
 use Rattle.import_readers.proofs.Records.{route_told}
 use Rattle.import_calls.proofs.Records.{route_done, hopless_done, fault_done}
 use Rattle.import_calls.proofs.ImporterReader3.read.Goals as goal
 
-pub returns-in_err-route : goal.returns-in_err-route
-returns-in_err-route c =
+pub returns-in_err-route-clause-done : goal.returns-in_err-route-clause-done
+returns-in_err-route-clause-done c =
     let given : c.from_residual.result ≡ Err c.in_err-route.field-0.0 = search rules in
     rw given (fault_done _ _ _ _ _ _ _ (sym c.read_record.ensures ∙ c.in_err-route.was))
 
 pub add_announced-outcome-requires : goal.add_announced-outcome-requires
 add_announced-outcome-requires c =
-    let pre = c.requires in
     let read : c.read_record.result ≡ Ok (Some c.in-Some.route) = rw c.in-Some.is at c.in_ok-route.was in
     let told = route_told _ _ (sym c.read_record.ensures ∙ read) in
-    record {
-      range = pre.settings_value;
-      counters_fit = pre.counters.size;
-      slots_fit = pre.slots.size;
-      known = party_low _;
-      high = told.high;
-      tight = told.tight;
-    }
+    record { high = told.high; tight = told.tight }
 
-pub returns-in-Some : goal.returns-in-Some
-returns-in-Some c =
+pub returns-in-Some-clause-done : goal.returns-in-Some-clause-done
+returns-in-Some-clause-done c =
     let read : c.read_record.result ≡ Ok (Some c.in-Some.route) = rw c.in-Some.is at c.in_ok-route.was in
-    route_done _ _ _ _ _ _ _ (sym c.read_record.ensures ∙ read) c.add_announced-outcome.ensures c.count_route.ensures
+    route_done _ _ _ _ _ _ _ (sym c.read_record.ensures ∙ read) c.add_announced-outcome.ensures.done c.count_route.ensures
 
-pub returns-in-None : goal.returns-in-None
-returns-in-None c =
+pub returns-in-None-clause-done : goal.returns-in-None-clause-done
+returns-in-None-clause-done c =
     let read : c.read_record.result ≡ Ok None = rw c.in-None.is at c.in_ok-route.was in
     hopless_done _ _ _ _ _ _ _ (sym c.read_record.ensures ∙ read) c.count_hopless.ensures

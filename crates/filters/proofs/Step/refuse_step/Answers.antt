@@ -6,7 +6,7 @@ use Rattle.rules.specs.Table.{refuse}
 use Rattle.filters.specs.declared.Step.{Step}
 use Rattle.filters.specs.Visits.{cannot, cannot_at, some_cannot, step_number}
 use Rattle.rules.proofs.Members.{count_few}
-use Rattle.filters.proofs.refuse_step.Goals as goal
+use Rattle.filters.proofs.Step.refuse_step.Goals as goal
 
 pub loop-place-init : goal.loop-place-init
 unfolding some_cannot
@@ -38,4 +38,4 @@ pub returns : goal.returns
 unfolding any refuse
 returns c =
     let a = c.args in
-    ap (λ (b : Bool). refuse b (step_number a.step) 0) (sym (c.loop-place.invariant ∙ ap (any (cannot_at a.step a.counters.now a.places.now)) (drop_all _ _ c.loop-place-test.false)))
+    ap (λ (b : Bool). refuse b (step_number a.self) 0) (sym (c.loop-place.invariant ∙ ap (any (cannot_at a.self a.counters.now a.places.now)) (drop_all _ _ c.loop-place-test.false)))

@@ -3,7 +3,7 @@ use Rattle.std.proofs.Common.{◌≡◌, ℕ, ◌-◌, Bool, true, ltb, List, ge
 use Rattle.rules.specs.Tools.{all}
 use Rattle.rules.specs.Table.{claims}
 use Rattle.filters.proofs.Hashing.{places_left}
-use Rattle.filters.proofs.claims_prefix.Given as goal
+use Rattle.filters.proofs.Filters.claims_prefix.Given as goal
 
 -- the counters at these places are nonzero
 unfoldable pub nonzero : (counters places : List ℕ) → Bool
@@ -11,7 +11,7 @@ nonzero counters places = all (λ i. ltb 0 (get_or counters i 0)) places
 
 abbrev pub invariant-loop : goal.invariant-loop
 invariant-loop l =
-    (l.claimed ≡ true) × (claims l.settings l.counters l.p l.length ≡ nonzero l.counters (places_left l.settings l.length l.growth l.counter l.g))
+    (l.claimed ≡ true) × (claims l.settings.all l.counters l.p l.length.number ≡ nonzero l.counters (places_left l.settings.all l.length.number l.growth l.counter l.g))
 
 abbrev pub decreases-loop : goal.decreases-loop
 decreases-loop l = l.end - l.counter

@@ -1,7 +1,7 @@
 -- Each counter can take the hits that are left to it, and takes one: `can_take` and `one_taken`.
 use Rattle.std.proofs.Common.{arith}
 use Rattle.filters.proofs.Visits.{can_take, one_taken, all_taken}
-use Rattle.filters.proofs.step_each.Goals as goal
+use Rattle.filters.proofs.Step.step_each.Goals as goal
 
 pub stepped-requires : goal.stepped-requires
 stepped-requires c = can_take c.loop-place.invariant c.loop-place-test.true

@@ -1,0 +1,3 @@
+-- The laws on types that hold what was checked.
+pub mod Readiness
+pub mod Tables

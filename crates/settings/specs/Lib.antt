@@ -1,0 +1,2 @@
+-- What the contracts over a whole table cite.
+pub mod Tables
