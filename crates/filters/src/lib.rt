@@ -65,7 +65,7 @@ impl Step {
 }
 
 // How many counters a filter has that so many bits number.
-pub fn filter_size(bits: u8) -> u32
+pub fn filter_size(bits: u32) -> u32
     requires { bits ≤ 11 }
     ensures { result ≡ 2 ^ bits }
 {
@@ -77,7 +77,10 @@ fn start_of(settings: &InRange, length: Length) -> usize
     ensures { result ≡ filter_start settings.now.all length.number }
 {
     let shorter = &settings.all.d[..(length.number - 1) as usize];
-    shorter.iter().map(|&bits| filter_size(bits)).sum::<u32>() as usize
+    shorter
+        .iter()
+        .map(|&bits| filter_size(u32::from(bits)))
+        .sum::<u32>() as usize
 }
 
 // Where the counter that g numbers lies, in the filter of a length that begins at start.

@@ -27,9 +27,9 @@ use Rattle.replay_format.specs.Messages.{message_of, record_bad, is_applied, rec
 use Rattle.replay_format.specs.Replaying.{replaying}
 use Rattle.replay_readers.specs.Held.{record_held}
 use Rattle.replay_readers.proofs.Records.{UpdateTold, held_told, held_refused}
-use Rattle.replay_tally.specs.Steps.{tally_added}
+use Rattle.replay_tally.specs.Steps.{record_added}
 use Rattle.replay_tally.proofs.Adding.{added_more}
-use Rattle.replay_calls.specs.Days.{replayed_to, RecordReplayed}
+use Rattle.replay_calls.specs.Days.{only_seen, replayed_to, RecordReplayed}
 use Rattle.replay_calls.proofs.Updates.{formed, ill_formed, other_than_hopless, good_told, refused_told}
 
 -- the bytes from the place of an UPDATE on are its message
@@ -42,8 +42,8 @@ its_message bytes {at} is = rw (← length-drop at bytes, take-length, (held_tol
 module _ (t : Settings) (party : ℕ) (hops bytes counters slots : List ℕ) {counters' slots' : List ℕ} where
   -- it is only seen
   seen : record_bad bytes ≡ false → is_applied bytes hops ≡ false → lent counters slots ≡ lent counters' slots'
-      → RecordReplayed t party hops bytes counters slots (Ok None) counters' slots'
-  unfolding replaying replayed_to record_calls tally_added run each
+      → RecordReplayed t party hops bytes counters slots only_seen counters' slots'
+  unfolding replaying replayed_to record_calls record_added run each
   seen sound unapplied same = record {
     done = λ earlier. record_counts t (replaying party hops) (work earlier counters slots) bytes (rw sound) ∙ rw (unapplied, same);
     few = tt;
@@ -61,7 +61,7 @@ module _ (t : Settings) (party : ℕ) (hops bytes counters slots : List ℕ) {co
   -- ---- By what it holds
 
   -- something else than an UPDATE of IPv4
-  pub other_done : record_held bytes ≡ Ok None → lent counters slots ≡ lent counters' slots' → RecordReplayed t party hops bytes counters slots (Ok None) counters' slots'
+  pub other_done : record_held bytes ≡ Ok None → lent counters slots ≡ lent counters' slots' → RecordReplayed t party hops bytes counters slots only_seen counters' slots'
   unfolding record_bad is_applied
   other_done is same =
       let told = held_told bytes is in
@@ -78,7 +78,7 @@ module _ (t : Settings) (party : ℕ) (hops bytes counters slots : List ℕ) {co
     -- an UPDATE that is applied
     pub update_applied : memory_refusal t (lent counters slots) 0 ≡ 0 → party ≤ 1 → {counts : Counts}
         → update_done t (lent counters slots) party (message_of bytes) hops ≡ applied_to (Ok counts) counters' slots' → RecordReplayed t party hops bytes counters slots (Ok (Some counts)) counters' slots'
-    unfolding record_bad is_applied record_calls replaying replayed_to run
+    unfolding record_bad is_applied record_calls replaying replayed_to record_added run
     update_applied fits known done =
         let told : UpdateTold bytes at = held_told bytes is in
         let good = good_told t (lent counters slots) party (message_of bytes) hops done in
@@ -86,12 +86,12 @@ module _ (t : Settings) (party : ℕ) (hops bytes counters slots : List ℕ) {co
         record {
           done = λ earlier. record_counts t (replaying party hops) (work earlier counters slots) bytes
               (rw (told.long, told.update, formed (message_of bytes) hops (λ e. omega (arith, good.passed))))
-              ∙ rw (applied, good.last, added_more earlier _ _ good.counted (message_answers t (lent counters slots) party (message_of bytes) hops fits known good.passed));
+              ∙ rw (applied, good.last, added_more earlier true _ _ good.counted (message_answers t (lent counters slots) party (message_of bytes) hops fits known good.passed));
           few = few_low (record { answers = (run t (lent counters slots) (message_calls party (message_of bytes) hops)).answers; tally = good.counted; few = rw answers_length (calls_few party (message_of bytes) hops good.passed) });
         }
 
     -- one that announces without a hop
-    pub update_hopless : update_done t (lent counters slots) party (message_of bytes) hops ≡ applied_to (Err Hopless) counters' slots' → RecordReplayed t party hops bytes counters slots (Ok None) counters' slots'
+    pub update_hopless : update_done t (lent counters slots) party (message_of bytes) hops ≡ applied_to (Err Hopless) counters' slots' → RecordReplayed t party hops bytes counters slots only_seen counters' slots'
     unfolding record_bad is_applied
     update_hopless done =
         let told : UpdateTold bytes at = held_told bytes is in

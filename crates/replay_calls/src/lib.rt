@@ -15,7 +15,7 @@ ghost use Rattle.replay_calls.specs.Laws.{names_party, taken_up, written, any_hi
 use message_calls::{Counts, apply_update};
 use replay_format::Tally;
 use replay_readers::read_record;
-use replay_tally::note;
+use replay_tally::note_record;
 use rules::{Party, Refusal, Settings};
 use settings::Table;
 use stream_chunks::{Reader, take_chunk};
@@ -73,13 +73,13 @@ impl Reader<23> for Replayer<'_> {
         tally: &mut Tally,
     ) -> Result<(), Refusal> {
         let applied = replay_record(table, party, bytes, self.hops)?;
-        note(tally, applied);
+        note_record(tally, applied);
         Ok(())
     }
 
-    #[tactic(auto, unfolding(replay_format::specs::Replaying::replaying, replay_tally::specs::Steps::tally_added))]
+    #[tactic(auto, unfolding(replay_format::specs::Replaying::replaying, replay_tally::specs::Steps::record_added))]
     fn step_over(&self, tally: &mut Tally) {
-        note(tally, None);
+        note_record(tally, None);
     }
 
     ghost names_party = { λ replayer party. names_party party replayer.hops.now };

@@ -4,14 +4,13 @@ use Rattle.message_calls.specs.declared.Counts.{Counts}
 use Rattle.replay_format.specs.declared.Tally.{Tally}
 use Rattle.replay_format.specs.Replaying.{tally_more}
 
--- one record more: it is only seen, or its UPDATE is applied with these counts
-unfoldable pub tally_added : Tally → (applied : Option Counts) → Tally
-tally_added earlier None = tally_more earlier false []
-tally_added earlier (Some counts) =
+-- one record more, with these counts
+unfoldable pub tally_added : Tally → (applied : ℕ) → Counts → Tally
+tally_added earlier applied counts =
     let r = earlier.refused in
     record {
       seen = earlier.seen + 1;
-      applied = earlier.applied + 1;
+      applied = earlier.applied + applied;
       accepted = earlier.accepted + counts.accepted;
       refused =
           get_or r 0 0 ∷ get_or r 1 0 ∷ get_or r 2 0 ∷ get_or r 3 0 ∷ get_or r 4 0 ∷ get_or r 5 0 ∷ get_or r 6 0
@@ -20,6 +19,11 @@ tally_added earlier (Some counts) =
           ∷ get_or r 12 0 ∷ get_or r 13 0 ∷ get_or r 14 0 ∷ get_or r 15 0 ∷ get_or r 16 0 ∷ get_or r 17 0 ∷ get_or r 18 0 ∷ get_or r 19 0
           ∷ [];
     }
+
+-- the same of what a record did: it is only seen, or its UPDATE is applied with these counts
+unfoldable pub record_added : Tally → (applied : Option Counts) → Tally
+record_added earlier None = tally_more earlier false []
+record_added earlier (Some counts) = tally_added earlier 1 counts
 
 -- every figure is at most so many above 4,000,000,000
 pub record Low (tally : Tally) (more : ℕ) : Type 0 where
@@ -38,6 +42,12 @@ pub record OfOne (counts : Counts) : Type 0 where
   pub odd_few : counts.odd ≤ 4096
 
 -- every figure has room for what is added
-pub record Addable (tally : Tally) (applied : Option Counts) : Type 0 where
+pub record Addable (tally : Tally) (applied : ℕ) (counts : Counts) : Type 0 where
+  pub low : Low tally 268435456
+  pub one : applied ≤ 1
+  pub few : OfOne counts
+
+-- the same for what a record did
+pub record RecordAddable (tally : Tally) (applied : Option Counts) : Type 0 where
   pub low : Low tally 268435456
   pub few : IfSome applied OfOne

@@ -3,24 +3,17 @@
 #![tactic(auto)]
 
 ghost use Rattle.std.specs.Prelude.{◌≡◌};
-ghost use Rattle.replay_tally.specs.Steps.{tally_added, Addable};
+ghost use Rattle.replay_tally.specs.Steps.{tally_added, Addable, record_added, RecordAddable};
 
 use message_calls::Counts;
 use replay_format::Tally;
 use rules::Refusal;
 
-// The tally with one record more: what was counted of its routes, where its UPDATE was applied.
-fn step(earlier: Tally, applied: Option<Counts>) -> Tally
-    requires { Addable earlier applied }
-    ensures { result ≡ tally_added earlier applied }
+// The tally with one record more: 1 where its UPDATE was applied, or 0, and what was counted of its routes.
+fn step(earlier: Tally, applied: u32, counts: Counts) -> Tally
+    requires { Addable earlier applied counts }
+    ensures { result ≡ tally_added earlier applied counts }
 {
-    let seen = Tally {
-        seen: earlier.seen + 1,
-        ..earlier
-    };
-    let Some(counts) = applied else {
-        return seen;
-    };
     let mut refused = earlier.refused;
     refused[Refusal::NotStored as usize] += counts.unstored;
     refused[Refusal::Full as usize] += counts.full;
@@ -28,17 +21,28 @@ fn step(earlier: Tally, applied: Option<Counts>) -> Tally
     refused[Refusal::Below as usize] += counts.below;
     refused[Refusal::Odd as usize] += counts.odd;
     Tally {
-        applied: earlier.applied + 1,
+        seen: earlier.seen + 1,
+        applied: earlier.applied + applied,
         accepted: earlier.accepted + counts.accepted,
         refused,
-        ..seen
     }
 }
 
 // Notes one record in a lent tally.
-pub fn note(tally: &mut Tally, applied: Option<Counts>)
-    requires { Addable tally.old applied }
-    ensures { tally.new ≡ tally_added tally.old applied }
+pub fn note(tally: &mut Tally, applied: u32, counts: Counts)
+    requires { Addable tally.old applied counts }
+    ensures { tally.new ≡ tally_added tally.old applied counts }
 {
-    *tally = step(*tally, applied);
+    *tally = step(*tally, applied, counts);
+}
+
+// Notes one record by what was counted of its routes, where its UPDATE was applied; where none was, it is only seen.
+pub fn note_record(tally: &mut Tally, applied: Option<Counts>)
+    requires { RecordAddable tally.old applied }
+    ensures { tally.new ≡ record_added tally.old applied }
+{
+    match applied {
+        Some(counts) => note(tally, 1, counts),
+        None => note(tally, 0, Counts::default()),
+    }
 }

@@ -19,7 +19,8 @@ pub fn vector_of(filters: &Filters, address: u32) -> u32
     let mut start = filters.counters.len();
     // By its number, since bit and prefix go with it as the D does.
     for number in (1..=32).rev() {
-        start -= filter_size(filters.settings.all.d[(number - 1) as usize]) as usize;
+        let bits = u32::from(filters.settings.all.d[(number - 1) as usize]);
+        start -= filter_size(bits) as usize;
         if filters.claims_prefix(p, Length { number }, start) {
             vector |= 1 << (number - 1);
         }

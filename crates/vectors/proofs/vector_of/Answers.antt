@@ -30,21 +30,21 @@ module _ (t : Settings) (L : ℕ) (range : in_range t ≡ true) (low : 1 ≤ L) 
   few = rw (bits_at t L) (filter_bits_high t L ready)
 
   -- the filter of the length begins where this leads
-  begins : (start size : ℕ) → start ≡ filter_start t (suc L) → size ≡ 2 ^ get_or t.d (L - 1) 0 → (size ≤ start) × (start - size ≡ filter_start t L)
-  begins start size ends is =
+  begins : (start bits size : ℕ) → bits ≡ get_or t.d (L - 1) 0 → start ≡ filter_start t (suc L) → size ≡ 2 ^ bits → (size ≤ start) × (start - size ≡ filter_start t L)
+  begins start bits size its ends is =
       let next = filter_next t L ready in
-      let its = rw (bits_at t L) at is in
+      let counted = rw (its, bits_at t L) at is in
       (omega arith, omega arith)
 
 pub filter_size-requires : goal.filter_size-requires
-filter_size-requires c = few _ _ c.args.filters.now.settings.now.range c.loop-number-test.true c.loop-number.auto.number
+filter_size-requires c = omega (arith, c.from-bits.ensures, few _ _ c.args.filters.now.settings.now.range c.loop-number-test.true c.loop-number.auto.number)
 
 pub overflow_sub-start : goal.overflow_sub-start
-overflow_sub-start c = (begins _ _ c.args.filters.now.settings.now.range c.loop-number-test.true c.loop-number.auto.number _ _ c.loop-number.invariant.ends c.filter_size.ensures).0
+overflow_sub-start c = (begins _ _ c.args.filters.now.settings.now.range c.loop-number-test.true c.loop-number.auto.number _ _ _ c.from-bits.ensures c.loop-number.invariant.ends c.filter_size.ensures).0
 
 pub claims_prefix-requires : goal.claims_prefix-requires
 claims_prefix-requires c =
-    (begins _ _ c.args.filters.now.settings.now.range c.loop-number-test.true c.loop-number.auto.number _ _ c.loop-number.invariant.ends c.filter_size.ensures).1
+    (begins _ _ c.args.filters.now.settings.now.range c.loop-number-test.true c.loop-number.auto.number _ _ _ c.from-bits.ensures c.loop-number.invariant.ends c.filter_size.ensures).1
 
 -- what the filter of the length says of the address
 told : (t : Settings) (counters : List ℕ) (address L p : ℕ) (answer : Bool) → p ≡ prefix address L → answer ≡ claims t counters p L
@@ -62,7 +62,7 @@ loop-number-preserved c =
       cut = rw (at.invariant.cut, its) (prefix_next _ L low high c.ranges.address.fits);
       its_bit = rw (its, ← pow-add 2 (32 - L) 1) (ap (λ (n : ℕ). 2 ^ n % 2 ^ 32) (omega (arith, low, high)));
       ends =
-          (begins _ _ c.args.filters.now.settings.now.range low high _ _ at.invariant.ends c.filter_size.ensures).1
+          (begins _ _ c.args.filters.now.settings.now.range low high _ _ _ c.from-bits.ensures at.invariant.ends c.filter_size.ensures).1
           ∙ ap (filter_start _) (omega (arith, low));
       so_far =
           elim c.if-claims_prefix.branch [
