@@ -66,9 +66,9 @@ module _ (p mark from : ℕ) (before after : (p : ℕ) → ℕ) (more : (q : ℕ
   kept_ahead None l silent = kept l silent
 
   -- and otherwise it is what lies ahead
-  closer_lies : p < 2 ^ 32 → (o : Option Ahead) → Lies before from o → Lies after from (closer_of from o p mark)
+  closer_lies : (o : Option Ahead) → Lies before from o → Lies after from (closer_of from o p mark)
   unfolding closer_of
-  closer_lies small o lies = go (ltb p from) (leb (lying o).prefix p) (eqb mark 0) refl refl refl
+  closer_lies o lies = go (ltb p from) (leb (lying o).prefix p) (eqb mark 0) refl refl refl
     where
       go : (a b c : Bool) → ltb p from ≡ a → leb (lying o).prefix p ≡ b → eqb mark 0 ≡ c → Lies after from (closer_of from o p mark)
       go true b c ea eb ec = rw ea (kept_ahead o lies (λ q l h. rw (ne_eqb p q (omega (arith, ltb-true p from ea)))))
@@ -78,6 +78,7 @@ module _ (p mark from : ℕ) (before after : (p : ℕ) → ℕ) (more : (q : ℕ
           let after_from = ltb-false p from ea in
           let nearer = leb-false (lying o).prefix p eb in
           let next = lies_next o lies in
+          let small : p < 2 ^ 32 = omega (arith, nearer, next.high) in
           let there : Next after from (record { prefix = p; mark = mark }) = record {
             low = after_from;
             high = omega arith;
@@ -186,14 +187,14 @@ module _ (t : Settings) (slots : List ℕ) (party L n from : ℕ) where
       }
 
   -- a slot is passed as the code reads it
-  pub passed_one : (ahead next : Option Ahead) → prefix_at slots n < 2 ^ 32 → Lies (told_below t slots party L n) from ahead
+  pub passed_one : (ahead next : Option Ahead) → Lies (told_below t slots party L n) from ahead
       → next ≡ closer_of from ahead (prefix_at slots n) (slot_tells t party (prefix_at slots n) L n (mark_at slots n)) → Lies (told_below t slots party L (n + 1)) from next
   unfolding told_below tells
-  passed_one ahead next small before is =
+  passed_one ahead next before is =
       let p = prefix_at slots n in
       rw (is, add-one)
       (closer_lies p (slot_tells t party p L n (mark_at slots n)) from (told_below t slots party L n) _
-      (λ q. ap (or_next (told_below t slots party L n q)) (same q (eqb p q) refl)) small ahead before)
+      (λ q. ap (or_next (told_below t slots party L n q)) (same q (eqb p q) refl)) ahead before)
     where
       same : (q : ℕ) (b : Bool) → eqb (prefix_at slots n) q ≡ b
           → cond b (slot_tells t party q L n (mark_at slots n)) 0 ≡ cond b (slot_tells t party (prefix_at slots n) L n (mark_at slots n)) 0

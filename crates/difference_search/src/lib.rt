@@ -116,8 +116,10 @@ fn default_from<T: Cell>(stored: &Stored<T>, party: Party, from: u64) -> Option<
     Some(Ahead { prefix: 0, mark })
 }
 
-// The next prefix that the party has stored at a length, from a number on: at 2^32 no prefix is left.
+// The next prefix that the party has stored at a length, from a number on: at 2^32 no prefix is left. Where tables are
+// small a comparison is mostly its calls, some four for each length.
 #[tactic(auto, using(settings::proofs::Readiness::ready, crate::proofs::Slots::slot_lent, crate::proofs::Passing::passed_none, crate::proofs::Passing::passed_one, crate::proofs::Passing::passed_all))]
+#[inline(always)]
 pub fn next_prefix<T: Cell>(
     stored: &Stored<T>,
     party: Party,

@@ -122,23 +122,38 @@ module _ (bytes : List ℕ) (at end : ℕ) where
         first e =
             rw (attributes_next bytes at end more, hops_next bytes at end more, fits, eq-eqb _ _ is_hop, one_more bytes at left, eq-eqb _ _ e, and-true (empty left))
 
+-- its type is the kind that was read
+type : (bytes : List ℕ) {rest : Cursor} {read : AttributeRead} → Moved rest (attribute_fits bytes rest.at rest.end) (read_attribute bytes rest) read
+    → read.kind ≡ 3 → type_of bytes rest.at ≡ 3
+unfolding read_attribute
+type bytes m is_hop = sym (ap (λ (r : AttributeRead). r.kind) m.read) ∙ is_hop
+
 -- the whole gives what is left of it gives
 pub record Looking (bytes : List ℕ) (from to : ℕ) (rest : Cursor) (found : Option ℕ) : Type 0 where
-  pub inside : to ≤ length bytes
   pub same_end : rest.end ≡ to
   pub same : hop_read bytes from to ≡ hop_from found bytes rest.at rest.end
 
 module _ (bytes : List ℕ) (from to : ℕ) {rest : Cursor} {found : Option ℕ} (l : Looking bytes from to rest found) where
+  module _ {read : AttributeRead} (m : Moved rest (attribute_fits bytes rest.at rest.end) (read_attribute bytes rest) read) (is_hop : read.kind ≡ 3) where
+    pub two_hops : {address : ℕ} → found ≡ Some address → hop_read bytes from to ≡ Err Malformed
+    two_hops e = l.same ∙ rw e (second bytes rest.at rest.end m.more m.fits (type bytes m is_hop) _)
+
+-- and the part lies in the bytes
+pub record LookingInside (bytes : List ℕ) (from to : ℕ) (rest : Cursor) (found : Option ℕ) : Type 0 where
+  pub inside : to ≤ length bytes
+  pub looks : Looking bytes from to rest found
+
+module _ (bytes : List ℕ) (from to : ℕ) {rest : Cursor} {found : Option ℕ} (i : LookingInside bytes from to rest found) where
   lies : rest.end ≤ length bytes
-  lies = rw l.same_end l.inside
+  lies = rw i.looks.same_end i.inside
 
   pub none_left : next_attribute bytes rest ≡ Ok None → hop_read bytes from to ≡ Ok found
-  none_left over = l.same ∙ nothing_left bytes rest.at rest.end found (attribute_told bytes rest lies over)
+  none_left over = i.looks.same ∙ nothing_left bytes rest.at rest.end found (attribute_told bytes rest lies over)
 
   pub one_broken : {e : Refusal} → next_attribute bytes rest ≡ Err e → hop_read bytes from to ≡ Err e
   one_broken fault =
       let m = attribute_told bytes rest lies fault in
-      l.same ∙ unfit bytes rest.at rest.end m.1.0 found m.1.1 ∙ ap Err (sym m.0)
+      i.looks.same ∙ unfit bytes rest.at rest.end m.1.0 found m.1.1 ∙ ap Err (sym m.0)
 
   module _ {read : AttributeRead} (read_so : next_attribute bytes rest ≡ Ok (Some read)) where
     moved : Moved rest (attribute_fits bytes rest.at rest.end) (read_attribute bytes rest) read
@@ -148,51 +163,51 @@ module _ (bytes : List ℕ) (from to : ℕ) {rest : Cursor} {found : Option ℕ}
     unfolding read_attribute
     looks_less =
         let more = moved.more in
-        rw moved.read (omega (arith, after_attribute_later bytes rest.at, l.same_end, more))
+        rw moved.read (omega (arith, after_attribute_later bytes rest.at, i.looks.same_end, more))
 
     pub four_inside : read.size ≡ 4 → read.from + 4 ≤ length bytes
     four_inside four = value_inside bytes rest moved four lies
 
-    pub not_hop : (read.kind ≡ 3 → ⊥) → Looking bytes from to read.rest found
+    pub not_hop : (read.kind ≡ 3 → ⊥) → LookingInside bytes from to read.rest found
     unfolding read_attribute
     not_hop other =
         let kind = ap (λ (r : AttributeRead). r.kind) moved.read in
         rw moved.read (record {
-          inside = l.inside;
-          same_end = l.same_end;
-          same = l.same ∙ stepped_over bytes rest.at rest.end moved.more moved.fits found (λ e. other (kind ∙ e));
+          inside = i.inside;
+          looks = record {
+            same_end = i.looks.same_end;
+            same = i.looks.same ∙ stepped_over bytes rest.at rest.end moved.more moved.fits found (λ e. other (kind ∙ e));
+          };
         })
 
     module _ (is_hop : read.kind ≡ 3) where
-      type : type_of bytes rest.at ≡ 3
-      unfolding read_attribute
-      type = sym (ap (λ (r : AttributeRead). r.kind) moved.read) ∙ is_hop
-
       sized : read.size ≡ value_size bytes rest.at
       unfolding read_attribute
       sized = ap (λ (r : AttributeRead). r.size) moved.read
 
       pub wrong_size : (read.size ≡ 4 → ⊥) → hop_read bytes from to ≡ Err Malformed
-      wrong_size ne = l.same ∙ size_not_4 bytes rest.at rest.end moved.more moved.fits type found (λ e. ne (sized ∙ e))
+      wrong_size ne = i.looks.same ∙ size_not_4 bytes rest.at rest.end moved.more moved.fits (type bytes moved is_hop) found (λ e. ne (sized ∙ e))
 
-      pub two_hops : is_some found ≡ true → hop_read bytes from to ≡ Err Malformed
-      two_hops is = go found refl
+      pub another_hop : is_some found ≡ true → hop_read bytes from to ≡ Err Malformed
+      another_hop is = go found refl
         where
           go : (o : Option ℕ) → found ≡ o → hop_read bytes from to ≡ Err Malformed
           go None e = absurd (false≢true (rw e at is))
-          go (Some address) e = l.same ∙ rw e (second bytes rest.at rest.end moved.more moved.fits type address)
+          go (Some address) e = two_hops bytes from to i.looks moved is_hop e
 
-      pub one_hop : is_some found ≡ false → read.size ≡ 4 → {address : ℕ} → address ≡ four_bytes bytes read.from → Looking bytes from to read.rest (Some address)
+      pub one_hop : is_some found ≡ false → read.size ≡ 4 → {address : ℕ} → address ≡ four_bytes bytes read.from → LookingInside bytes from to read.rest (Some address)
       unfolding read_attribute
       one_hop is four {address} here = go found refl
         where
-          go : (o : Option ℕ) → found ≡ o → Looking bytes from to read.rest (Some address)
+          go : (o : Option ℕ) → found ≡ o → LookingInside bytes from to read.rest (Some address)
           go (Some other) e = absurd (false≢true (sym is ∙ ap is_some e))
           go None e =
               rw (here, moved.read) (record {
-                inside = l.inside;
-                same_end = l.same_end;
-                same = l.same ∙ rw e (first bytes rest.at rest.end moved.more moved.fits type (sym sized ∙ four));
+                inside = i.inside;
+                looks = record {
+                  same_end = i.looks.same_end;
+                  same = i.looks.same ∙ rw e (first bytes rest.at rest.end moved.more moved.fits (type bytes moved is_hop) (sym sized ∙ four));
+                };
               })
 
 -- ---- What the answer means, and what it tells

@@ -146,11 +146,11 @@ module _ {kind : Kind} {from : Framed} {bytes : List ℕ} {size : ℕ} {stage : 
       goes_on (omega (arith, length-drop size bytes)) (rw (← run.begins) (all kind run [] bytes size some (omega arith) h)) g
 
 -- a record is complete already
-pub goes_none : {kind : Kind} {room bytes : List ℕ} {event : Event} {next : Next} → Stands next (Header 0) bytes event
-    → completes event ≡ true → HasRoom event → Goes kind (framed (Header 0) room event) bytes next room
-goes_none is y i = record {
+pub goes_none : {kind : Kind} {stage : Stage} {room bytes : List ℕ} {event : Event} {next : Next} → Stands next stage bytes event → Sound stage
+    → completes event ≡ true → HasRoom event → Goes kind (framed stage room event) bytes next room
+goes_none is s y i = record {
   cut = rw (is.stage_is, is.rest_is, is.event_is) (stops _ _ _ y);
-  sound = rw is.stage_is (omega arith);
+  sound = subst Sound (sym is.stage_is) s;
   no_more = rw is.rest_is (omega arith);
   fewer = λ n d. absurd (false≢true (sym n ∙ y));
   in_room = λ e. subst HasRoom (sym is.event_is ∙ e) i;

@@ -66,7 +66,7 @@ pub value_more : (ds : List ℕ) (i : ℕ) → i < length ds → value 0 (take (
 value_more ds i h = rw (add-one, take-suc ds i 0 h) (value_append 0 (take i ds) (get_or ds i 0))
 
 -- more digits never write a smaller number
-value_grows : (n : ℕ) (ds : List ℕ) → n ≤ value n ds
+pub value_grows : (n : ℕ) (ds : List ℕ) → n ≤ value n ds
 unfolding value
 value_grows n [] = le_refl n
 value_grows n (d ∷ ds) = let r = value_grows (n * 10 + d) ds in omega arith

@@ -1,4 +1,4 @@
--- What is left decides, after what was found: `Looking`.
+-- What is left decides, after what was found: `LookingInside`.
 use mathlib.Core.Path.{sym, ap, ◌∙◌}
 use Rattle.std.specs.Prelude.{Ok}
 use Rattle.message_readers.proofs.Parts.{not_hop, one_hop}

@@ -13,8 +13,8 @@ unfolding header_read to_read to_step_over body_size completes
 returns-then-size-eq0 c =
     rw (← c.is_kind-read.ensures, ← c.four_bytes-size.ensures, c.if-size-eq0.true)
     (elim c.if-read.branch [
-      | then-read w ↦ rw w.if-read.true (goes_none (rw w.event-is at c.complete.ensures) refl (omega arith))
-      | else-read w ↦ rw w.if-read.false (goes_none (rw w.event-is at c.complete.ensures) refl tt)
+      | then-read w ↦ rw w.if-read.true (goes_none (rw w.event-is at c.complete.ensures) (omega arith) refl (omega arith))
+      | else-read w ↦ rw w.if-read.false (goes_none (rw w.event-is at c.complete.ensures) (omega arith) refl tt)
     ])
 
 pub returns-then-not-read : goal.returns-then-not-read

@@ -14,4 +14,4 @@ returns-then-more-left c kind room =
 pub returns : goal.returns
 unfolding completes
 returns c kind room =
-    goes_past (over_run kind c.args.left room) (omega arith) (omega arith) (goes_none (rw (← length-drop c.args.left c.args.bytes.now, take-length) at c.complete.ensures) refl tt)
+    goes_past (over_run kind c.args.left room) (omega arith) (omega arith) (goes_none (rw (← length-drop c.args.left c.args.bytes.now, take-length) at c.complete.ensures) (omega arith) refl tt)

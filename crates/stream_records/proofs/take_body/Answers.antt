@@ -17,4 +17,4 @@ returns c kind =
     let a = c.args in
     rw (c.keep_bytes-2.ensures, c.split_at.ensures.front)
     (goes_past (body_run kind a.read a.left a.room.now) (omega arith) (omega arith)
-    (goes_none (rw c.split_at.ensures.back at c.complete.ensures) refl (omega arith)))
+    (goes_none (rw c.split_at.ensures.back at c.complete.ensures) (omega arith) refl (omega arith)))
