@@ -2,7 +2,8 @@
 // lent memory is damaged, copied and shown.
 #![tactic(auto)]
 
-ghost use Rattle.std.specs.Prelude.{◌≡◌, min, take, length};
+ghost use Rattle.std.specs.Prelude.{◌≡◌, ◌/◌, ◌%◌, ◌^◌, ◌≤◌, ◌↔◌, IsSome, min, take, length};
+ghost use Rattle.rules.specs.Table.{lent, add};
 
 use rules::{Settings, number_given};
 use std::{fmt, io};
@@ -45,12 +46,16 @@ pub struct Lent {
 
 impl Case {
     // The first digit, which says what a case does.
-    pub fn digit(self) -> u32 {
+    pub fn digit(self) -> u32
+        ensures { result ≡ self.0 / 2 ^ 60 }
+    {
         (self.0 / 0x1000_0000_0000_0000) as u32
     }
 
     // What a case sets up; none where its digit stands for what the program does.
-    pub fn setup(self) -> Option<Setup> {
+    pub fn setup(self) -> Option<Setup>
+        ensures { IsSome result ↔ (8 ≤ self.0 / 2 ^ 60) }
+    {
         match self.digit() {
             0x8 => Some(Setup::PutCounter),
             0x9 => Some(Setup::PutWord),
@@ -65,31 +70,43 @@ impl Case {
     }
 
     // Its prefix, or what stands there.
-    pub fn prefix(self) -> u32 {
+    pub fn prefix(self) -> u32
+        ensures { result ≡ self.0 / 2 ^ 28 % 2 ^ 32 }
+    {
         (self.0 / 0x1000_0000 % 0x1_0000_0000) as u32
     }
 
     // The last byte of what stands there.
-    pub fn byte(self) -> u8 {
+    pub fn byte(self) -> u8
+        ensures { result ≡ self.0 / 2 ^ 28 % 2 ^ 8 }
+    {
         (self.0 / 0x1000_0000 % 0x100) as u8
     }
 
-    pub fn length(self) -> u32 {
+    pub fn length(self) -> u32
+        ensures { result ≡ self.0 / 2 ^ 20 % 2 ^ 8 }
+    {
         (self.0 / 0x10_0000 % 0x100) as u32
     }
 
     // Its hop, or what stands there.
-    pub fn hop(self) -> u32 {
+    pub fn hop(self) -> u32
+        ensures { result ≡ self.0 % 2 ^ 17 }
+    {
         (self.0 % 0x2_0000) as u32
     }
 
     // The place that stands there.
-    pub fn place(self) -> usize {
+    pub fn place(self) -> usize
+        ensures { result ≡ self.0 % 2 ^ 17 }
+    {
         (self.0 % 0x2_0000) as usize
     }
 
     // The party that it names.
-    pub fn party(self) -> u32 {
+    pub fn party(self) -> u32
+        ensures { result ≡ self.0 / 2 ^ 17 % 8 }
+    {
         (self.0 / 0x2_0000 % 8) as u32
     }
 }
@@ -311,7 +328,9 @@ pub fn add(
     counters: &mut [u8],
     slots: &mut [u32],
     case: Case,
-) -> io::Result<()> {
+) -> io::Result<()>
+    ensures { (add t (lent counters.old slots.old) (case.0 / 2 ^ 17 % 8) (case.0 / 2 ^ 28 % 2 ^ 32) (case.0 / 2 ^ 20 % 2 ^ 8) (case.0 % 2 ^ 17)).memory ≡ lent counters.new slots.new }
+{
     let outcome = table::add(
         t,
         counters,
