@@ -31,22 +31,35 @@ fn refuse_tables<T: Cell>(
     refuse_party_sizes(second, counters2.len(), T::word_count(slots2), party)
 }
 
+// Counts the differences of two tables, and puts those that a list has room for into it, from its front on.
+// Each by its place, not by chunks_exact_mut: of chunks that come back a proof knows the lengths alone. That whoever calls
+// this runs the same code, and holds no copy of it, is for speed where tables are small.
+#[inline(never)]
+fn list_differences<T: Cell>(
+    first: &Stored<T>,
+    second: &Stored<T>,
+    party: Party,
+    list: &mut [T],
+) -> u32
+    ensures count { result ≡ length (between first.now.settings.now.all (T.words first.now.slots.now) second.now.settings.now.all (T.words second.now.slots.now) (party_number party)) }
+    ensures listed { let ds = between first.now.settings.now.all (T.words first.now.slots.now) second.now.settings.now.all (T.words second.now.slots.now) (party_number party) in 4 * T.WIDE * length ds ≤ length list.old → list.new ≡ over (T.cells (difference_words ds)) list.old }
+{
+    let room = list.len() / (4 * T::WIDE);
+    let mut i = 0;
+    for found in Differences::new(first, second, party) {
+        if i < room {
+            put(list, 4 * T::WIDE * i, found);
+        }
+        i += 1;
+    }
+    i as u32
+}
+
 // How many prefixes two tables differ at.
 fn count_differences<T: Cell>(first: &Stored<T>, second: &Stored<T>, party: Party) -> u32
     ensures { result ≡ length (between first.now.settings.now.all (T.words first.now.slots.now) second.now.settings.now.all (T.words second.now.slots.now) (party_number party)) }
 {
-    Differences::new(first, second, party).count() as u32
-}
-
-// Puts the differences of two tables into a list, from its front on.
-// Each by its place, not by chunks_exact_mut: of chunks that come back a proof knows the lengths alone.
-fn list_differences<T: Cell>(first: &Stored<T>, second: &Stored<T>, party: Party, list: &mut [T])
-    requires room { 4 * T.WIDE * length (between first.now.settings.now.all (T.words first.now.slots.now) second.now.settings.now.all (T.words second.now.slots.now) (party_number party)) ≤ length list.old }
-    ensures { list.new ≡ over (T.cells (difference_words (between first.now.settings.now.all (T.words first.now.slots.now) second.now.settings.now.all (T.words second.now.slots.now) (party_number party)))) list.old }
-{
-    for (i, found) in Differences::new(first, second, party).enumerate() {
-        put(list, 4 * T::WIDE * i, found);
-    }
+    list_differences(first, second, party, &mut [])
 }
 
 // Counts the prefixes at which two tables differ, and lists them where the list has room for all of them.

@@ -1,7 +1,7 @@
 -- A pass over slots: at each slot, what lies ahead is the next prefix that the slots before it have.
 use Prim.Native.Nat.{ℕ, zero, suc, ◌+◌, ◌-◌, ◌*◌, ◌%◌, ◌^◌, ◌≤◌, ◌<◌}
 use mathlib.Core.Path.{◌≡◌, refl, sym, ap, ◌∙◌, subst}
-use mathlib.Core.Bool.{Bool, true, false, cond, true≢false}
+use mathlib.Core.Bool.{Bool, true, false, cond, ◌||◌, true≢false}
 use mathlib.Core.List.{List}
 use mathlib.Core.Logic.{◌⊎◌, inl, inr}
 use mathlib.Core.Option.{Option as Found, some, none}
@@ -40,6 +40,18 @@ stays (suc before) this h = refl
 neither : (b : Bool) → cond b 0 0 ≡ zero
 neither true = refl
 neither false = refl
+
+-- nor is a mark that is not the party's told, so what lies ahead stays there
+pub passed_over : (t : Settings) (party p L n mark from : ℕ) (ahead : Option Ahead) → own party mark ≡ false
+    → ahead ≡ closer_of from ahead p (slot_tells t party p L n mark)
+unfolding slot_tells closer_of
+passed_over t party p L n mark from ahead other =
+    rw (told_other party mark other, neither (own_slot t p L n), neither (loose p L)) (go (ltb p from) (leb (lying ahead).prefix p))
+  where
+    go : (a b : Bool) → ahead ≡ cond (a || (b || true)) ahead (Some (record { prefix = p; mark = 0 }))
+    go true b = refl
+    go false true = refl
+    go false false = refl
 
 -- what lies ahead lies there as the rules say, and nothing lies beyond every prefix
 pub lies_next : {has : (p : ℕ) → ℕ} {from : ℕ} (o : Option Ahead) → Lies has from o → Next has from (lying o)

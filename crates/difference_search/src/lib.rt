@@ -2,7 +2,7 @@
 // as bytes. Nothing is kept between two passes but the prefix from which the next one goes on.
 #![tactic(auto)]
 
-ghost use Rattle.std.specs.Prelude.{◌≡◌, ◌*◌, ◌^◌, ◌≤◌, ◌<◌, leb, length as count_of};
+ghost use Rattle.std.specs.Prelude.{◌≡◌, ◌*◌, ◌^◌, ◌≤◌, ◌<◌, leb, length as count_of, Some, MatchOption};
 ghost use Rattle.rules.specs.Table.{mark_word, prefix_at, mark_at};
 ghost use Rattle.rules.specs.Numbers.{party_number};
 ghost use Rattle.difference_rules.specs.Comparing.{told, has};
@@ -71,9 +71,9 @@ fn slot_tells(
     told(party, mark)
 }
 
-// The nearer of what lies ahead and what a slot holds, if that is a route of the party's and not before `from`;
-// of equals what was there first.
-#[tactic(auto, unfolding(crate::specs::Next::closer_of))]
+// What a slot holds, if that is a route of the party's, not before `from`, and nearer than what lies ahead; of equals
+// what was there first stays.
+#[tactic(auto, using(crate::proofs::Passing::passed_over), unfolding(crate::specs::Next::closer_of))]
 fn closer<T: Cell>(
     stored: &Stored<T>,
     party: Party,
@@ -83,24 +83,16 @@ fn closer<T: Cell>(
     slot: usize,
 ) -> Option<Ahead>
     requires { mark_word slot < count_of (T.words stored.now.slots.now) }
-    ensures nearer { let p = prefix_at (T.words stored.now.slots.now) slot in result ≡ closer_of from ahead p (slot_tells stored.now.settings.now.all (party_number party) p length.number slot (mark_at (T.words stored.now.slots.now) slot)) }
+    ensures nearer { let p = prefix_at (T.words stored.now.slots.now) slot in let next = closer_of from ahead p (slot_tells stored.now.settings.now.all (party_number party) p length.number slot (mark_at (T.words stored.now.slots.now) slot)) in MatchOption result (ahead ≡ next) (λ nearer. Some nearer ≡ next) }
     ensures prefix_bound { prefix_at (T.words stored.now.slots.now) slot < 2 ^ 32 }
 {
     let prefix = prefix_at(stored.slots, slot);
-    if u64::from(prefix) < from || lies_by(ahead, prefix) {
-        return ahead;
+    let mark = mark_at(stored.slots, slot);
+    if u64::from(prefix) < from || lies_by(ahead, prefix) || !is_own(party, mark) {
+        return None;
     }
-    match slot_tells(
-        stored.settings,
-        party,
-        prefix,
-        length,
-        slot,
-        mark_at(stored.slots, slot),
-    ) {
-        Some(mark) => Some(Ahead { prefix, mark }),
-        None => ahead,
-    }
+    let mark = slot_tells(stored.settings, party, prefix, length, slot, mark)?;
+    Some(Ahead { prefix, mark })
 }
 
 // The default, which is the one route of length 0, if it is not before `from`.
@@ -138,7 +130,9 @@ pub fn next_prefix<T: Cell>(
     let mut ahead = None;
     // By number: those of a length lie one after the other, and each is two words.
     for slot in slots_of(settings, length.number - 1)..slots_of(settings, length.number) {
-        ahead = closer(stored, party, length, from, ahead, slot);
+        if let Some(nearer) = closer(stored, party, length, from, ahead, slot) {
+            ahead = Some(nearer);
+        }
     }
     ahead
 }

@@ -1,22 +1,48 @@
--- Each difference is put after those before it, until none is left: `Listed`.
+-- Each difference is met, and put after those before it where there is room, until none is left: `Listed`. A number of 32 bits
+-- counts them: `few`.
+use native.Mathlib.Omega.{arith}
 use mathlib.Core.Path.{◌∙◌}
-use Rattle.difference_calls.proofs.Listing.{listed_none, listed_more, listed_all}
+use Rattle.rules.specs.Numbers.{party_number}
+use Rattle.difference_rules.proofs.Few.{few}
+use Rattle.difference_calls.proofs.Listing.{listed_none, listed_count, listed_more, counted_more, listed_all, counted_all}
 use Rattle.difference_calls.proofs.list_differences.Goals as goal
+use Rattle.difference_calls.proofs.list_differences.Goals.{then-i-room, else-i-room}
 
-pub loop-i-init : goal.loop-i-init
-loop-i-init g c =
-    let t = c.new.ensures.tables in
-    rw (c.into_iter-i-iterator.ensures.into_iter_gives, c.enumerate-i-items.ensures.source, c.enumerate-i-items.ensures.count, t.0, t.1, t.2, c.new.ensures.all)
+pub loop-found-init : goal.loop-found-init
+loop-found-init g c =
+    let t = c.new-found-items.ensures.tables in
+    rw (c.into_iter-found-iterator.ensures.into_iter_gives, t.0, t.1, t.2, c.new-found-items.ensures.all)
     (listed_none g.T.Cell.cells g.T.Cell.WIDE g.met.T.Cell.cells_none g.met.T.Cell.cells_append g.met.T.Cell.cells_length _ _)
 
-pub loop-i-preserved : goal.loop-i-preserved
-loop-i-preserved g c =
-    let steps = c.in-Some.ensures.steps in
-    rw steps.2
-    (listed_more g.T.Cell.cells g.T.Cell.WIDE g.met.T.Cell.cells_none g.met.T.Cell.cells_append g.met.T.Cell.cells_length _ _
-    c.loop-i.invariant steps.0 (c.put.ensures ∙ rw (c.WIDE.ensures, steps.1)))
+pub overflow_add-i : goal.overflow_add-i
+overflow_add-i g c =
+    let a = c.args in
+    let one = listed_count g.T.Cell.cells g.T.Cell.WIDE g.met.T.Cell.cells_none g.met.T.Cell.cells_append g.met.T.Cell.cells_length _ _ c.loop-found.invariant c.in-Some.ensures.steps in
+    omega (arith, one, few _ (g.T.Cell.words a.first.now.slots.now) _ (g.T.Cell.words a.second.now.slots.now) (party_number a.party) a.first.now.settings.now.range a.second.now.settings.now.range)
 
-pub returns : goal.returns
-returns g c =
+pub loop-found-preserved : goal.loop-found-preserved
+loop-found-preserved g c =
+    let listed = c.loop-found.invariant in
+    let first = c.in-Some.ensures.steps in
+    elim c.if-i-room.branch [
+      | then-i-room w ↦
+          listed_more g.T.Cell.cells g.T.Cell.WIDE g.met.T.Cell.cells_none g.met.T.Cell.cells_append g.met.T.Cell.cells_length _ _
+          listed first (w.list-is ∙ w.put.ensures ∙ rw w.WIDE-then-i-room.ensures)
+      | else-i-room w ↦
+          rw w.list-is (counted_more g.T.Cell.cells g.T.Cell.WIDE g.met.T.Cell.cells_none g.met.T.Cell.cells_append g.met.T.Cell.cells_length _ _
+          listed first g.met.T.Cell.some_cells (rw c.WIDE.ensures at w.if-i-room.false))
+    ]
+
+pub returns-clause-count : goal.returns-clause-count
+returns-clause-count g c =
+    counted_all g.T.Cell.cells g.T.Cell.WIDE g.met.T.Cell.cells_none g.met.T.Cell.cells_append g.met.T.Cell.cells_length _ _ (rw c.in-None.ensures.steps.0 at c.loop-found.invariant)
+
+pub overflow_cast-result : goal.overflow_cast-result
+overflow_cast-result g c =
+    let a = c.args in
+    record { fits = omega (arith, returns-clause-count g c, few _ (g.T.Cell.words a.first.now.slots.now) _ (g.T.Cell.words a.second.now.slots.now) (party_number a.party) a.first.now.settings.now.range a.second.now.settings.now.range) }
+
+pub returns-clause-listed : goal.returns-clause-listed
+returns-clause-listed g c =
     listed_all g.T.Cell.cells g.T.Cell.WIDE g.met.T.Cell.cells_none g.met.T.Cell.cells_append g.met.T.Cell.cells_length _ _
-    c.requires.room (rw c.in-None.ensures.steps.0.0 at c.loop-i.invariant)
+    (rw c.in-None.ensures.steps.0 at c.loop-found.invariant)
