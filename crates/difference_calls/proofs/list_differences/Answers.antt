@@ -1,10 +1,10 @@
--- Each difference is met, and put after those before it where there is room, until none is left: `Listed`. A number of 32 bits
+-- Each difference is counted, and put after those before it where there is room, until none is left: `Counted`. A number of 32 bits
 -- counts them: `few`.
 use native.Mathlib.Omega.{arith}
 use mathlib.Core.Path.{◌∙◌}
 use Rattle.rules.specs.Numbers.{party_number}
 use Rattle.difference_rules.proofs.Few.{few}
-use Rattle.difference_calls.proofs.Listing.{listed_none, listed_count, listed_more, counted_more, listed_all, counted_all}
+use Rattle.difference_calls.proofs.Listing.{counted_none, listed_count, counted_put, counted_more, counted_over, counted_all}
 use Rattle.difference_calls.proofs.list_differences.Goals as goal
 use Rattle.difference_calls.proofs.list_differences.Goals.{then-i-room, else-i-room}
 
@@ -12,7 +12,7 @@ pub loop-found-init : goal.loop-found-init
 loop-found-init g c =
     let t = c.new-found-items.ensures.tables in
     rw (c.into_iter-found-iterator.ensures.into_iter_gives, t.0, t.1, t.2, c.new-found-items.ensures.all)
-    (listed_none g.T.Cell.cells g.T.Cell.WIDE g.met.T.Cell.cells_none g.met.T.Cell.cells_append g.met.T.Cell.cells_length _ _)
+    (counted_none g.T.Cell.cells g.T.Cell.WIDE g.met.T.Cell.cells_none g.met.T.Cell.cells_append g.met.T.Cell.cells_length _ _)
 
 pub overflow_add-i : goal.overflow_add-i
 overflow_add-i g c =
@@ -22,15 +22,15 @@ overflow_add-i g c =
 
 pub loop-found-preserved : goal.loop-found-preserved
 loop-found-preserved g c =
-    let listed = c.loop-found.invariant in
+    let so_far = c.loop-found.invariant in
     let first = c.in-Some.ensures.steps in
     elim c.if-i-room.branch [
       | then-i-room w ↦
-          listed_more g.T.Cell.cells g.T.Cell.WIDE g.met.T.Cell.cells_none g.met.T.Cell.cells_append g.met.T.Cell.cells_length _ _
-          listed first (w.list-is ∙ w.put.ensures ∙ rw w.WIDE-then-i-room.ensures)
+          counted_put g.T.Cell.cells g.T.Cell.WIDE g.met.T.Cell.cells_none g.met.T.Cell.cells_append g.met.T.Cell.cells_length _ _
+          so_far first (w.list-is ∙ w.put.ensures ∙ rw w.WIDE-then-i-room.ensures)
       | else-i-room w ↦
           rw w.list-is (counted_more g.T.Cell.cells g.T.Cell.WIDE g.met.T.Cell.cells_none g.met.T.Cell.cells_append g.met.T.Cell.cells_length _ _
-          listed first g.met.T.Cell.some_cells (rw c.WIDE.ensures at w.if-i-room.false))
+          so_far first g.met.T.Cell.some_cells (rw c.WIDE.ensures at w.if-i-room.false))
     ]
 
 pub returns-clause-count : goal.returns-clause-count
@@ -44,5 +44,5 @@ overflow_cast-result g c =
 
 pub returns-clause-listed : goal.returns-clause-listed
 returns-clause-listed g c =
-    listed_all g.T.Cell.cells g.T.Cell.WIDE g.met.T.Cell.cells_none g.met.T.Cell.cells_append g.met.T.Cell.cells_length _ _
+    counted_over g.T.Cell.cells g.T.Cell.WIDE g.met.T.Cell.cells_none g.met.T.Cell.cells_append g.met.T.Cell.cells_length _ _
     (rw c.in-None.ensures.steps.0 at c.loop-found.invariant)
